@@ -1,2 +1,3 @@
+pub mod Common
 pub mod DiagramLemmas
 pub mod RefusalLemmas

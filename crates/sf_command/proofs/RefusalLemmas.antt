@@ -1,11 +1,5 @@
 -- Why what is done with files is refused.
-use Rattle.std.proofs.Common.{◌≡◌, ◌⊎◌, ◌<◌, inl, inr, ℕ, List, Option, Bor, length}
-use Rattle.sf_stack.specs.declared.fault.Fault.{Fault}
-use Rattle.sf_check.specs.declared.insn.Insn.{Insn}
-use Rattle.sf_audit.specs.Audits.{IsWrongCount}
-use Rattle.sf_stack.specs.declared.fault.Fault.TheVariants.{Count, Memory, Write}
-use Rattle.sf_command.specs.Audits.{AskedData, IsAskedBy, IsRefusedFor, ReadData, RefusesAudit}
-use Rattle.sf_evaluate.specs.Files.{HoldStack}
+use Rattle.sf_command.proofs.Common.{◌≡◌, ◌⊎◌, ◌<◌, inl, inr, ℕ, List, Option, Bor, length, Fault, Insn, IsWrongCount, Count, Memory, Write, AskedData, IsAskedBy, IsRefusedFor, ReadData, RefusesAudit, HoldStack}
 
 -- where there are no questions or too many, the audit of the stack is refused
 pub miscounted : (read : ReadData) (e : Fault) → (e ≡ Memory) ⊎ ((e ≡ Count) × IsWrongCount read.questions)

@@ -1,35 +1,6 @@
 -- What `audit` reads and writes.
-use Rattle.std.specs.Prelude.{◌≡◌, ◌⊎◌, ◌<◌, ◌||◌, ◌++◌, ℕ, Bool, true, false, List, [], ◌∷◌, Option, Some, None, codes, is_some, length, map, string_bytes, if◌then◌else◌}
-use Rattle.std.specs.Borrow.{Bor}
-use Rattle.std.specs.Io.KnownBytes.{Appends}
-use Rattle.serde_json.specs.Data.{Data}
-use Rattle.sf_check.specs.declared.insn.Insn.{Insn}
-use Rattle.sf_question.specs.QuestionData.{QuestionData}
-use Rattle.sf_ask.specs.declared.verdict.Reply.{Reply}
-use Rattle.sf_ask.specs.declared.verdict.Reply.TheVariants.{Never, Allowed, Unsettled}
-use Rattle.sf_crew.specs.Sweeps.{AreRightReplies}
-use Rattle.sf_names.specs.Names.{NamesData}
-use Rattle.sf_stack.specs.declared.fault.Fault.{Fault}
-use Rattle.sf_stack.specs.declared.fault.Fault.TheVariants.{Count, Memory, Write}
-use Rattle.sf_audit.specs.Outcomes.{Found}
-use Rattle.sf_audit.specs.Audits.{IsAuditOf, IsWrongCount}
-use Rattle.sf_audit.specs.Documents.{TellingData, audit_document}
-use Rattle.sf_audit.specs.Expectations.{ExpectedData, expected_text}
-use Rattle.sf_audit.specs.Reports.{report_text}
-use Rattle.sf_audit.specs.Summaries.{summary_text}
-use Rattle.sf_evaluate.specs.Expecting.{AreAcceptedIn, IsControl, RefusesAccepted, RefusesControl}
-use Rattle.sf_evaluate.specs.Files.{HoldStack, RefusesFiles}
-use Rattle.sf_evaluate.specs.Groups.{AreGroupsIn, RefusesGroups}
-use Rattle.sf_evaluate.specs.Identity.{HasBothFiles, identified}
-use Rattle.sf_evaluate.specs.Origins.{HasOrigins}
-use Rattle.sf_evaluate.specs.Policies.{AreAsked, RefusesAsking}
-use Rattle.sf_trace.specs.Traces.{IsWhy}
-use Rattle.sf_evaluate.specs.declared.files.identity.FileRole.TheVariants.{Filter, Policy}
-use Rattle.sf_json.specs.Documents.{document_line}
-use Rattle.sf_policy.specs.Groups.{GroupData}
-use Rattle.sf_command.specs.declared.auditing.AskedContents.{AskedContents}
-use Rattle.sf_command.specs.declared.auditing.TextForm.{TextForm}
-use Rattle.sf_command.specs.declared.auditing.TextForm.TheVariants.{Report, Summary, SummaryOfAll}
+use Rattle.std.specs.Prelude.{◌≡◌, ◌⊎◌, ◌<◌, ◌||◌, ◌++◌, ℕ, Bool, true, false, List, [], ◌∷◌, Option, Some, None, codes, is_some, length, map, option_map, string_bytes, if◌then◌else◌}
+use Rattle.sf_command.specs.Common.{Bor, Appends, Data, Insn, QuestionData, Reply, Never, Allowed, Unsettled, AreRightReplies, NamesData, Fault, Count, Memory, Write, Found, IsAuditOf, IsWrongCount, TellingData, audit_document, ExpectedData, expected_text, report_text, summary_text, AreAcceptedIn, IsControl, RefusesAccepted, RefusesControl, HoldStack, RefusesFiles, AreGroupsIn, RefusesGroups, HasBothFiles, identified, HasOrigins, AreAsked, RefusesAsking, IsWhy, Filter, Policy, document_line, GroupData, Asked, AskedContents, TextForm, Report, Summary, SummaryOfAll}
 use Rattle.sf_command.specs.Status.{audit_status}
 
 -- the files that an audit is asked by: policies, and where they are given that of a control, that of the questions that
@@ -41,6 +12,17 @@ pub record AskedData : Type 0 where
   pub groups : Option (List ℕ)
   pub has_groups : Bool
   pub names : List (Bor (List ℕ))
+
+-- these files, by the values of the code
+abbrev pub asked_data : Asked → AskedData
+asked_data a = record {
+  policies = a.policies.now;
+  control = option_map (λ t. t.now) a.control;
+  accept = option_map (λ t. t.now) a.accept;
+  groups = option_map (λ t. t.now) a.groups;
+  has_groups = a.has_groups;
+  names = a.names.now;
+}
 
 -- what these files hold: questions, the questions of the control, and the names of questions that may be allowed
 pub record ReadData : Type 0 where
@@ -61,10 +43,6 @@ pub record IsAskedBy (holds : List ℕ → Option (List ℕ)) (asked : AskedData
   pub questions : AreAsked holds asked.policies read.questions
   pub control : IsControl holds asked.control read.control
   pub accepted : AreAcceptedIn holds asked.accept read.questions read.accepted
-
--- what is expected, where these are the replies to the control
-abbrev pub expected_of : ReadData → List Reply → ExpectedData
-expected_of read held = record { control = read.control; held = held; accepted = read.accepted }
 
 -- it is told what isn't as expected: where a control is given, or questions that may be allowed
 abbrev pub is_expecting : AskedData → Bool
@@ -93,14 +71,11 @@ abbrev pub control_source : Option (List ℕ) → List ℕ
 control_source None = []
 control_source (Some path) = source_line (codes "control") path
 
--- policies, a control and files of names, each on a line
-abbrev pub sources_of : List (Bor (List ℕ)) → Option (List ℕ) → List (Bor (List ℕ)) → List ℕ
-sources_of policies control names =
-    source_lines (codes "policy") policies ++ (control_source control ++ source_lines (codes "names") names)
-
--- those that an audit is asked by
+-- the policies, the control and the files of names that an audit is asked by, each on a line
 abbrev pub sources_text : AskedData → List ℕ
-sources_text asked = sources_of asked.policies asked.control asked.names
+sources_text asked =
+    source_lines (codes "policy") asked.policies
+    ++ (control_source asked.control ++ source_lines (codes "names") asked.names)
 
 -- a summary has a line for each allowed question
 abbrev pub is_of_all : TextForm → Bool
@@ -142,17 +117,6 @@ audit_output false text version files t = text_output text t
 audit_output true text version files t =
     document_line (identified version files (audit_document t.telling t.expected t.found))
 
--- how an audit is told that is asked by these files, if its questions stand there
-abbrev pub telling_of : AskedData → (origins : List Data) → List NamesData → (regions : Bool)
-    → (remarks : List (List ℕ)) → TellingData
-telling_of asked origins names regions remarks = record {
-  regions = regions;
-  is_expecting = is_expecting asked;
-  names = names;
-  origins = origins;
-  remarks = remarks;
-}
-
 -- the remark on a reply: where it has an example, why the stack answers to this as it does
 abbrev pub IsRemark : List NamesData → List (List Insn) → Reply → List ℕ → Type 0
 IsRemark names programs (Allowed input) remark = IsWhy names programs input remark
@@ -177,7 +141,7 @@ pub record IsFoundFor (stack : List (List Insn)) (read : ReadData) (budget : ℕ
   pub audit : IsAuditOf stack read.questions budget found
   pub held : List Reply
   pub right : AreRightReplies found.settled read.control held
-  pub expects : expected ≡ expected_of read held
+  pub expects : expected ≡ record { control = read.control; held = held; accepted = read.accepted }
 
 -- `audit`: the files at the paths are read, and their stack is audited by the questions that the files of the policies
 -- ask; what is found is written, with remarks where they are asked for, in JSON with where each question stands and
@@ -204,7 +168,13 @@ pub record AuditsFiles (version : List ℕ) (holds : List ℕ → Option (List �
   pub written : Appends old new (audit_output json text version files (record {
     asked = asked;
     groups = groups;
-    telling = telling_of asked origins names regions remarks;
+    telling = record {
+      regions = regions;
+      is_expecting = is_expecting asked;
+      names = names;
+      origins = origins;
+      remarks = remarks;
+    };
     expected = expected;
     found = found;
   }))
@@ -223,15 +193,10 @@ RefusesAsked holds asked fault =
 abbrev pub IsRefusedFor : ReadData → Fault → Type 0
 IsRefusedFor read fault = (fault ≡ Count) × (IsWrongCount read.questions ⊎ (256 < length read.control))
 
--- why an audit by what was read is refused: the filter files are; or they make a stack, and its audit is refused
-abbrev pub RefusesAuditOf : (List ℕ → Option (List ℕ)) → List (Bor (List ℕ)) → ReadData → Fault → Type 0
-RefusesAuditOf holds paths read fault =
-    RefusesFiles holds paths fault
-    ⊎ ((stack : List (List Insn)) × HoldStack holds paths stack × IsRefusedFor read fault)
-
 -- Why an audit is refused: writing or memory failed; the files that it is asked by are refused; or these were read, and
--- the audit by what they hold is refused.
+-- the filter files are refused, or they make a stack, and its audit by what was read is refused.
 abbrev pub RefusesAudit : (List ℕ → Option (List ℕ)) → AskedData → List (Bor (List ℕ)) → Fault → Type 0
 RefusesAudit holds asked paths fault =
     (fault ≡ Write) ⊎ (fault ≡ Memory) ⊎ RefusesAsked holds asked fault
-    ⊎ ((read : ReadData) × IsAskedBy holds asked read × RefusesAuditOf holds paths read fault)
+    ⊎ ((read : ReadData) × IsAskedBy holds asked read × (RefusesFiles holds paths fault
+    ⊎ ((stack : List (List Insn)) × HoldStack holds paths stack × IsRefusedFor read fault)))

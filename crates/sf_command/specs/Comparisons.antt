@@ -1,18 +1,6 @@
 -- What `compare` reads and writes.
 use Rattle.std.specs.Prelude.{◌≡◌, ◌⊎◌, ℕ, Bool, true, false, List, Option}
-use Rattle.std.specs.Borrow.{Bor}
-use Rattle.std.specs.Io.KnownBytes.{Appends}
-use Rattle.serde_json.specs.Data.{Data}
-use Rattle.sf_stack.specs.declared.fault.Fault.{Fault}
-use Rattle.sf_names.specs.Names.{NamesData}
-use Rattle.sf_json.specs.Documents.{document_line}
-use Rattle.sf_relations.specs.declared.relation.Relation.{Relation}
-use Rattle.sf_compare.specs.Comparisons.{Compared, IsComparison, comparison_text, finding_of}
-use Rattle.sf_compare.specs.Documents.{comparison_document}
-use Rattle.sf_list.specs.Changes.{AreChanges, ChangedData, changed_document, changed_text}
-use Rattle.sf_evaluate.specs.Files.{HoldStack, RefusesBoth}
-use Rattle.sf_evaluate.specs.Identity.{HasBothFiles, identified}
-use Rattle.sf_evaluate.specs.declared.files.identity.FileRole.TheVariants.{Old, New}
+use Rattle.sf_command.specs.Common.{Bor, Appends, Data, Fault, NamesData, document_line, Relation, Compared, IsComparison, comparison_text, finding_of, comparison_document, AreChanges, ChangedData, changed_document, changed_text, HoldStack, RefusesBoth, HasBothFiles, identified, Old, New}
 use Rattle.sf_command.specs.Diagrams.{FailsByRows}
 use Rattle.sf_command.specs.Status.{finding_status}
 

@@ -1,9 +1,6 @@
 -- Why what is read off the decision diagrams of a stack's answers is refused.
 use Rattle.std.specs.Prelude.{◌≡◌, ◌⊎◌, ℕ, List, Option}
-use Rattle.std.specs.Borrow.{Bor}
-use Rattle.sf_stack.specs.declared.fault.Fault.{Fault}
-use Rattle.sf_stack.specs.declared.fault.Fault.TheVariants.{Memory, TooLarge, TooManyRows, Write}
-use Rattle.sf_evaluate.specs.Files.{RefusesFiles}
+use Rattle.sf_command.specs.Common.{Bor, Fault, Memory, TooLarge, TooManyRows, Write, RefusesFiles}
 
 -- writing or memory failed; or the diagrams would have more nodes than this
 abbrev pub FailsAnyhow : ℕ → Fault → Type 0

@@ -1,3 +1,4 @@
+pub mod Common
 pub mod Status
 pub mod Audits
 pub mod Diagrams

@@ -1,15 +1,6 @@
 -- What `needed` reads and writes.
 use Rattle.std.specs.Prelude.{◌≡◌, ℕ, Bool, true, false, List, Option}
-use Rattle.std.specs.Borrow.{Bor}
-use Rattle.std.specs.Io.KnownBytes.{Appends}
-use Rattle.serde_json.specs.Data.{Data}
-use Rattle.sf_needed.specs.Needs.{AreNeeds, NeedsData}
-use Rattle.sf_needed.specs.Texts.{needs_text}
-use Rattle.sf_needed.specs.Documents.{needs_document}
-use Rattle.sf_json.specs.Documents.{document_line}
-use Rattle.sf_evaluate.specs.Files.{HoldStack}
-use Rattle.sf_evaluate.specs.Identity.{HasFiles, identified}
-use Rattle.sf_evaluate.specs.declared.files.identity.FileRole.TheVariants.{Filter}
+use Rattle.sf_command.specs.Common.{Bor, Appends, Data, AreNeeds, NeedsData, needs_text, needs_document, document_line, HoldStack, HasFiles, identified, Filter}
 use Rattle.sf_command.specs.Status.{needs_status}
 
 -- what is told of filters: a text; or one JSON document, with the line of this version and these documents of files

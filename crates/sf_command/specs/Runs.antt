@@ -1,19 +1,7 @@
 -- What the program does, by the words of its command line.
 use Rattle.std.specs.Prelude.{◌≡◌, ◌⊎◌, ◌&&◌, ℕ, Bool, true, false, if◌then◌else◌, List, [], ◌∷◌, ◌++◌, Option, Some, codes, drop}
-use Rattle.std.specs.Str.{bytes_eq}
-use Rattle.std.specs.Io.KnownBytes.{Appends}
-use Rattle.clap.specs.Words.{IsAmong, Row, Text}
-use Rattle.clap.specs.declared.error.kind.ErrorKind.{ErrorKind}
-use Rattle.clap.specs.declared.error.kind.ErrorKind.TheVariants.{DisplayHelp, DisplayVersion}
-use Rattle.sf_stack.specs.declared.fault.Fault.TheVariants.{Memory, TooLarge, TooManyRows, Write}
-use Rattle.sf_command_line.specs.CommandLine.{errors_at, subcommand_at}
-use Rattle.sf_evaluate.specs.Faults.{IsOther}
+use Rattle.sf_command.specs.Common.{bytes_eq, Appends, IsAmong, Row, Text, ErrorKind, DisplayHelp, DisplayVersion, Memory, TooLarge, TooManyRows, Write, errors_at, subcommand_at, IsOther, Other, eval_words_fit, RefusesProfile, profile_words_fit, audit_words_fit, calls_fit, digest_fits, rows_fit}
 use Rattle.sf_evaluate.specs.declared.fault.Fault.{Fault}
-use Rattle.sf_evaluate.specs.declared.fault.Fault.TheVariants.{Other}
-use Rattle.sf_evaluate.specs.Asking.{eval_words_fit}
-use Rattle.sf_evaluate.specs.Profiles.{RefusesProfile, profile_words_fit}
-use Rattle.sf_evaluate.specs.Expecting.{audit_words_fit}
-use Rattle.sf_evaluate.specs.Wanted.{calls_fit, digest_fits, rows_fit}
 use Rattle.sf_command.specs.Subcommands.{RefusesOnStack, RunsAs}
 
 -- the words behind the options of a subcommand, which has this name, are among those that the options take

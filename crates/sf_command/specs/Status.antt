@@ -1,10 +1,6 @@
 -- Exit statuses of the program.
 use Rattle.std.specs.Prelude.{ℕ, List, Option, Some, None, nat_lt, not, count_by, if◌then◌else◌}
-use Rattle.sf_audit.specs.Expectations.{ExpectedData, does_hold, has_unexpected}
-use Rattle.sf_audit.specs.Outcomes.{Found}
-use Rattle.sf_audit.specs.Reports.{is_unsettled}
-use Rattle.sf_needed.specs.Texts.{is_spare}
-use Rattle.sf_relations.specs.declared.examples.Example.{Example}
+use Rattle.sf_command.specs.Common.{ExpectedData, does_hold, has_unexpected, Found, is_unsettled, is_spare, Example}
 
 -- The status of an audit: 2 where the control doesn't hold; else 1 where some question is allowed whose name isn't an
 -- accepted one; else 2 where some question is unsettled; else 0.

@@ -1,35 +1,17 @@
 -- What each subcommand does, by the values of its arguments, and why it is refused.
-use Rattle.std.specs.Prelude.{◌≡◌, ◌⊎◌, ℕ, Bool, true, false, if◌then◌else◌, List, Option, Some, None, codes, option_map, unwrap_or}
-use Rattle.std.specs.Str.{bytes_eq}
-use Rattle.std.specs.Borrow.{Bor}
-use Rattle.clap.specs.Words.{Row, Text, first_of, one_of}
-use Rattle.sf_insn.specs.declared.input.Input.{Input}
-use Rattle.sf_names.specs.Names.{NamesData}
-use Rattle.sf_stack.specs.declared.fault.Fault.{Fault}
-use Rattle.sf_stack.specs.declared.fault.Fault.TheVariants.{Input as InputFault, UnknownName}
-use Rattle.sf_relations.specs.declared.relation.Relation.{Relation}
-use Rattle.sf_relations.specs.declared.relation.Relation.TheVariants.{Looser, Tighter, Different}
-use Rattle.sf_command_line.specs.Options.{ArePaths, IsOptionNumber, IsSwitch}
+use Rattle.std.specs.Prelude.{◌≡◌, ◌⊎◌, ℕ, true, false, if◌then◌else◌, List, Option, Some, None, codes, option_map, unwrap_or}
+use Rattle.sf_command.specs.Common.{bytes_eq, Bor, Row, Text, first_of, one_of, Input, NamesData, Fault, UnknownName, Relation, Looser, Tighter, Different, ArePaths, IsOptionNumber, ListingForm, TextForm, Report, Summary, SummaryOfAll, AnswersFiles, ChecksFiles, RefusesCheck, AreNamed, AsksInput, LacksName, RefusesNamed, is_given, numbers_fit, WritesProfile, are_known, calls_asked, is_switched_on, wants_summary, installed_groups}
+use Rattle.sf_stack.specs.declared.fault.Fault.TheVariants.{Input as InputFault}
 use Rattle.sf_command.specs.Audits.{AskedData, AuditsFiles, RefusesAudit}
 use Rattle.sf_command.specs.Comparisons.{ComparesFiles, RefusesComparison, WantedData}
 use Rattle.sf_command.specs.Diagrams.{RefusesList, RefusesStack}
 use Rattle.sf_command.specs.Listings.{ListsFiles}
 use Rattle.sf_command.specs.Needs.{TellsNeeds}
-use Rattle.sf_command.specs.declared.listing.ListingForm.{ListingForm}
-use Rattle.sf_command.specs.declared.listing.ListingForm.TheVariants as form
-use Rattle.sf_command.specs.declared.auditing.TextForm.{TextForm}
-use Rattle.sf_command.specs.declared.auditing.TextForm.TheVariants.{Report, Summary, SummaryOfAll}
-use Rattle.sf_evaluate.specs.Outputs.{AnswersFiles, ChecksFiles, RefusesCheck}
-use Rattle.sf_evaluate.specs.Asking.{AreNamed, AsksInput, LacksName, RefusesNamed, is_given, numbers_fit}
-use Rattle.sf_evaluate.specs.Profiles.{WritesProfile}
-use Rattle.sf_evaluate.specs.Wanted.{are_known, calls_asked, is_switched_on}
-use Rattle.sf_evaluate.specs.Expecting.{wants_summary}
-use Rattle.sf_evaluate.specs.Groups.{installed_groups}
+use Rattle.sf_command.specs.declared.listing.ListingForm.TheVariants as forms
 
 -- the relation that a status is about: `Different` where the switch is given, and else `Looser`
-abbrev pub IsAskedRelation : Option Text → Relation → Type 0
-IsAskedRelation text asked =
-    (text ≡ Some (codes "true") → asked ≡ Different) × (text ≡ Some (codes "false") → asked ≡ Looser)
+abbrev pub relation_of_status : List Row → Relation
+relation_of_status rows = if is_switched_on (codes "same") rows then Different else Looser
 
 -- a relation of answers, by its word
 abbrev pub relation_named : Text → Relation
@@ -38,29 +20,16 @@ relation_named word =
     else if bytes_eq word (codes "tighter") then Tighter
     else Different
 
--- the relation that the rows of a comparison are asked for by; none where all rows are shown
-abbrev pub relation_of_rows : Option Text → Option Relation
-relation_of_rows text = option_map relation_named text
-
 -- which rows of what changes are asked for
 abbrev pub wanted_by : List Row → WantedData
-wanted_by rows = record { only = relation_of_rows (first_of (codes "only") rows); calls = calls_asked rows }
+wanted_by rows = record { only = option_map relation_named (first_of (codes "only") rows); calls = calls_asked rows }
 
 -- the form of a listing by its switches: a digest, else a document, else a text
-abbrev pub listing_form : (digest json : Bool) → ListingForm
-listing_form digest json = if digest then form.Digest else if json then form.Json else form.Text
-
--- this form of a listing is asked for
-pub record IsAskedForm (rows : List Row) (form : ListingForm) : Type 0 where
-  pub digest : Bool
-  pub as_digest : IsSwitch (one_of (codes "digest") rows) digest
-  pub json : Bool
-  pub in_json : IsSwitch (one_of (codes "json") rows) json
-  pub form_is : form ≡ listing_form digest json
-
--- so many nodes are allowed that decision diagrams may have: 1,000,000 where no number is given
-abbrev pub IsNodes : List Row → ℕ → Type 0
-IsNodes rows nodes = IsOptionNumber (one_of (codes "nodes") rows) 16000000 1000000 nodes
+abbrev pub listing_form : List Row → ListingForm
+listing_form rows =
+    if is_switched_on (codes "digest") rows then forms.Digest
+    else if is_switched_on (codes "json") rows then forms.Json
+    else forms.Text
 
 -- the form of the text of an audit, by its switches
 abbrev pub text_form : List Row → TextForm
@@ -90,45 +59,34 @@ module _ (version : Text) (holds : Text → Option Text) (rows : List Row) (stat
     pub named : ArePaths (codes "filters") rows paths
     pub budget : ℕ
     pub counted : IsOptionNumber (one_of (codes "budget") rows) 1000000 100000 budget
-    pub regions : Bool
-    pub listed : IsSwitch (one_of (codes "regions") rows) regions
-    pub why : Bool
-    pub explained : IsSwitch (one_of (codes "why") rows) why
-    pub json : Bool
-    pub in_json : IsSwitch (one_of (codes "json") rows) json
     pub names : List NamesData
     pub called : AreNamed holds rows names
     pub asked : AskedData
     pub asked_for : IsAskedFor rows asked
-    pub audited : AuditsFiles version holds asked paths names budget regions why (text_form rows) json status old new
+    pub audited : AuditsFiles version holds asked paths names budget (is_switched_on (codes "regions") rows)
+        (is_switched_on (codes "why") rows) (text_form rows) (is_switched_on (codes "json") rows) status old new
 
   -- the files that are named were checked
   pub record Checks : Type 0 where
     pub paths : List (Bor Text)
     pub named : ArePaths (codes "filters") rows paths
-    pub with_instructions : Bool
-    pub listed : IsSwitch (one_of (codes "instructions") rows) with_instructions
-    pub json : Bool
-    pub in_json : IsSwitch (one_of (codes "json") rows) json
-    pub checked : ChecksFiles with_instructions json version holds paths old new
+    pub checked : ChecksFiles (is_switched_on (codes "instructions") rows) (is_switched_on (codes "json") rows)
+        version holds paths old new
     pub status_is : status ≡ 0
 
   -- the input that is asked for was evaluated by the files that are named
   pub record Evaluates : Type 0 where
     pub paths : List (Bor Text)
     pub named : ArePaths (codes "filters") rows paths
-    pub traced : Bool
-    pub in_full : IsSwitch (one_of (codes "trace") rows) traced
-    pub brief : Bool
-    pub in_brief : IsSwitch (one_of (codes "trace-true") rows) brief
-    pub json : Bool
-    pub in_json : IsSwitch (one_of (codes "json") rows) json
     pub names : List NamesData
     pub called : AreNamed holds rows names
     pub input : Input
     pub asked : AsksInput rows names input
-    pub evaluated : AnswersFiles input (record { traced = traced; brief = brief; json = json }) version holds
-        paths names old new
+    pub evaluated : AnswersFiles input (record {
+      traced = is_switched_on (codes "trace") rows;
+      brief = is_switched_on (codes "trace-true") rows;
+      json = is_switched_on (codes "json") rows;
+    }) version holds paths names old new
     pub status_is : status ≡ 0
 
   -- the old and the new files that are named were compared
@@ -137,17 +95,11 @@ module _ (version : Text) (holds : Text → Option Text) (rows : List Row) (stat
     pub named_old : ArePaths (codes "old") rows old_paths
     pub new_paths : List (Bor Text)
     pub named_new : ArePaths (codes "new") rows new_paths
-    pub asked : Relation
-    pub switched : IsAskedRelation (one_of (codes "same") rows) asked
-    pub with_rows : Bool
-    pub listed : IsSwitch (one_of (codes "rows") rows) with_rows
     pub names : List NamesData
     pub called : AreNamed holds rows names
     pub known : are_known names (calls_asked rows) ≡ true
-    pub json : Bool
-    pub in_json : IsSwitch (one_of (codes "json") rows) json
-    pub compared : ComparesFiles holds old_paths new_paths version names asked with_rows json (wanted_by rows) status
-        old new
+    pub compared : ComparesFiles holds old_paths new_paths version names (relation_of_status rows)
+        (is_switched_on (codes "rows") rows) (is_switched_on (codes "json") rows) (wanted_by rows) status old new
 
   -- the stack of the files that are named was listed
   pub record Lists : Type 0 where
@@ -156,18 +108,14 @@ module _ (version : Text) (holds : Text → Option Text) (rows : List Row) (stat
     pub names : List NamesData
     pub called : AreNamed holds rows names
     pub known : are_known names (calls_asked rows) ≡ true
-    pub form : ListingForm
-    pub asked_form : IsAskedForm rows form
-    pub listed : ListsFiles version holds paths names (calls_asked rows) form old new
+    pub listed : ListsFiles version holds paths names (calls_asked rows) (listing_form rows) old new
     pub status_is : status ≡ 0
 
   -- what is needed of the files that are named was told
   pub record Needs : Type 0 where
     pub paths : List (Bor Text)
     pub named : ArePaths (codes "filters") rows paths
-    pub json : Bool
-    pub in_json : IsSwitch (one_of (codes "json") rows) json
-    pub needed : TellsNeeds version holds paths json status old new
+    pub needed : TellsNeeds version holds paths (is_switched_on (codes "json") rows) status old new
 
   -- the filter of the profile that is named was written, or what is told of it
   pub record Profiles : Type 0 where
@@ -201,48 +149,33 @@ RunsAs version holds named status old new = ByName
 abbrev pub OnPaths : Text → List Row → (List (Bor Text) → Type 0) → Type 0
 OnPaths name rows P = (paths : List (Bor Text)) × ArePaths name rows paths × P paths
 
--- this holds of how many nodes are allowed
+-- this holds of how many nodes decision diagrams may have: 1,000,000 where no number is given
 abbrev pub OnNodes : List Row → (ℕ → Type 0) → Type 0
-OnNodes rows P = (nodes : ℕ) × IsNodes rows nodes × P nodes
+OnNodes rows P = (nodes : ℕ) × IsOptionNumber (one_of (codes "nodes") rows) 16000000 1000000 nodes × P nodes
 
--- a file of names is refused, or else this is so
-abbrev pub OnNames : (Text → Option Text) → List Row → Fault → Type 0 → Type 0
-OnNames holds rows fault P = RefusesNamed holds rows fault ⊎ P
-
--- a call that is asked for by its name is one of no set
-abbrev pub RefusesCalls : (Text → Option Text) → List Row → Fault → Type 0
-RefusesCalls holds rows fault =
-    (fault ≡ UnknownName)
-    × ((sets : List NamesData) × AreNamed holds rows sets × (are_known sets (calls_asked rows) ≡ false))
-
--- a file of names is refused, or a call that is asked for, or else this is so
+-- a file of names is refused, or a call that is asked for by its name is one of no set, or else this is so
 abbrev pub OnCalls : (Text → Option Text) → List Row → Fault → Type 0 → Type 0
-OnCalls holds rows fault P = OnNames holds rows fault (RefusesCalls holds rows fault ⊎ P)
+OnCalls holds rows fault P =
+    RefusesNamed holds rows fault ⊎ ((fault ≡ UnknownName)
+    × ((sets : List NamesData) × AreNamed holds rows sets × (are_known sets (calls_asked rows) ≡ false))) ⊎ P
 
--- with the sets of the files of names that are named this input is asked for
-abbrev pub IsAsked : (Text → Option Text) → List Row → Type 0
-IsAsked holds rows =
-    (names : List NamesData) × (input : Input) × AreNamed holds rows names × AsksInput rows names input
-
--- a name that is given is none of the sets of the files of names that are named, and their calls
-abbrev pub IsUnknown : (Text → Option Text) → List Row → Type 0
-IsUnknown holds rows = (names : List NamesData) × AreNamed holds rows names × LacksName rows names
-
--- Why `eval` is refused behind its files of names: no input is spelled, or a number is too wide; a name is unknown; or
--- an input is asked for, and the filter files are refused as by `check`.
+-- Why `eval` is refused behind its files of names: no input is spelled, or a number is too wide; a given name is none
+-- of their sets and calls; or an input is asked for, and the filter files are refused as by `check`.
 abbrev pub RefusesEval : (Text → Option Text) → List Row → Fault → Type 0
 RefusesEval holds rows fault =
     ((fault ≡ InputFault) × (numbers_fit rows ≡ false))
-    ⊎ ((fault ≡ UnknownName) × (numbers_fit rows ≡ true) × IsUnknown holds rows)
-    ⊎ (IsAsked holds rows × OnPaths (codes "filters") rows (λ paths. RefusesCheck holds paths fault))
+    ⊎ ((fault ≡ UnknownName) × (numbers_fit rows ≡ true)
+    × ((names : List NamesData) × AreNamed holds rows names × LacksName rows names))
+    ⊎ (((names : List NamesData) × (input : Input) × AreNamed holds rows names × AsksInput rows names input)
+    × OnPaths (codes "filters") rows (λ paths. RefusesCheck holds paths fault))
 
 -- why what the named subcommand asks for is refused, where it is one of the six that take filters
 abbrev pub RefusesOnStack : (Text → Option Text) → Option (Text × List Row) → Fault → Type 0
 RefusesOnStack holds named fault = ByName
-    (λ rows. OnNames holds rows fault (OnPaths (codes "filters") rows
-    (λ paths. (asked : AskedData) × IsAskedFor rows asked × RefusesAudit holds asked paths fault)))
+    (λ rows. RefusesNamed holds rows fault ⊎ OnPaths (codes "filters") rows
+    (λ paths. (asked : AskedData) × IsAskedFor rows asked × RefusesAudit holds asked paths fault))
     (λ rows. OnPaths (codes "filters") rows (λ paths. RefusesCheck holds paths fault))
-    (λ rows. OnNames holds rows fault (RefusesEval holds rows fault))
+    (λ rows. RefusesNamed holds rows fault ⊎ RefusesEval holds rows fault)
     (λ rows. OnCalls holds rows fault (OnPaths (codes "old") rows (λ old. OnPaths (codes "new") rows
     (λ new. OnNodes rows (λ nodes. RefusesComparison holds old new nodes fault)))))
     (λ rows. OnCalls holds rows fault (OnPaths (codes "filters") rows

@@ -1,6 +1,6 @@
 //! The subcommand `audit`: reads the files that ask and the stack, audits it and writes the report.
 
-ghost use Rattle.std.specs.Prelude.{◌≡◌, ◌<◌, ◌≤◌, ◌⊎◌, ℕ, List, IfOk, IfErr, OnOk, length, map, option_map, string_bytes};
+ghost use Rattle.std.specs.Prelude.{◌≡◌, ◌<◌, ◌≤◌, ◌⊎◌, ℕ, List, IfOk, IfErr, OnOk, length, map, string_bytes};
 ghost use Rattle.std.specs.Io.KnownBytes.{Appends};
 ghost use Rattle.sf_audit.specs.Documents.{telling_data};
 ghost use Rattle.serde_json.specs.View.{view};
@@ -9,11 +9,11 @@ ghost use Rattle.sf_evaluate.specs.Identity.{HasFiles};
 ghost use Rattle.sf_evaluate.specs.Origins.{HasOrigins};
 ghost use Rattle.sf_evaluate.specs.declared.files.identity.FileRole.TheVariants.{Policy};
 ghost use Rattle.sf_stack.specs.declared.fault.Fault.TheVariants.{Count as CountFault, Memory as MemoryFault, Write as WriteFault};
-ghost use Rattle.sf_command.specs.Audits.{AreRemarks, AuditsFiles, HasRemarks, IsAskedBy, IsFoundFor, IsRefusedFor, IsRemark, RefusesAsked, RefusesAudit, are_placed, audit_output, behind_text, is_expecting, is_of_all, read_data, report_output, sources_text, summary_output, text_output};
+ghost use Rattle.sf_command.specs.Audits.{AreRemarks, AuditsFiles, HasRemarks, IsAskedBy, IsFoundFor, IsRefusedFor, IsRemark, RefusesAsked, RefusesAudit, are_placed, asked_data, audit_output, behind_text, is_expecting, read_data, report_output, sources_text, summary_output, text_output};
 ghost use Rattle.sf_command.specs.Told.{told_data};
 
 use crate::means::Means;
-use crate::sources::push_files;
+use crate::sources::{push_control, push_sources};
 use crate::status::status_of_audit;
 use sf_ask::{Question, Reply};
 use sf_audit::{
@@ -35,7 +35,6 @@ use sf_stack_warnings::warnings_of_stack;
 use sf_trace::why_text;
 use std::alloc::{AllocError, Global};
 use std::io::Write;
-use std::marker::Model;
 use std::sync::Wait;
 use std::thread::Threads;
 
@@ -46,12 +45,6 @@ pub enum TextForm {
     Summary,
     /// A summary with the call of each example, and the comment above its question.
     SummaryOfAll,
-}
-
-fn is_of_all(text: TextForm) -> bool
-    ensures { result ≡ is_of_all text }
-{
-    matches!(text, TextForm::SummaryOfAll)
 }
 
 /// How an audit is done, and what its report lists.
@@ -73,7 +66,7 @@ pub struct AuditTerms {
 fn are_placed(terms: AuditTerms) -> bool
     ensures { result ≡ are_placed terms.json terms.text }
 {
-    terms.json || is_of_all(terms.text)
+    terms.json || matches!(terms.text, TextForm::SummaryOfAll)
 }
 
 /// The paths of the files that say what an audit is to ask, and which replies are expected.
@@ -91,46 +84,20 @@ pub struct Asked<'m, 'n, 'a> {
     pub names: &'n [&'a str],
 }
 
-impl<'m, 'n, 'a> Model for Asked<'m, 'n, 'a> {
-    ghost use Rattle.std.specs.Prelude.{option_map};
-    ghost use Rattle.sf_command.specs.Audits.{AskedData};
-
-    ghost Value = { AskedData };
-
-    ghost view = { λ a. record {
-      policies = a.policies.now;
-      control = option_map (λ t. t.now) a.control;
-      accept = option_map (λ t. t.now) a.accept;
-      groups = option_map (λ t. t.now) a.groups;
-      has_groups = a.has_groups;
-      names = a.names.now;
-    } };
-}
-
 impl Asked<'_, '_, '_> {
     fn is_expecting(&self) -> bool
-        ensures { result ≡ is_expecting self.now }
+        ensures { result ≡ is_expecting (asked_data self.now) }
     {
         self.control.is_some() || self.accept.is_some()
     }
 
-    fn groups_path(&self) -> Option<&str>
-        ensures { option_map (λ t. t.now) result ≡ self.now.groups }
-    {
-        self.groups
-    }
-
-    fn has_groups(&self) -> bool
-        ensures { result ≡ self.now.has_groups }
-    {
-        self.has_groups
-    }
-
     fn sources(&self, alloc: Global) -> Result<String, AllocError>
-        ensures { IfOk result (λ text. string_bytes text ≡ sources_text self.now) }
+        ensures { IfOk result (λ text. string_bytes text ≡ sources_text (asked_data self.now)) }
     {
         let mut text = String::new(alloc);
-        push_files(&mut text, self.policies, self.control, self.names)?;
+        push_sources(&mut text, "policy", self.policies)?;
+        push_control(&mut text, self.control)?;
+        push_sources(&mut text, "names", self.names)?;
         Ok(text)
     }
 }
@@ -156,9 +123,8 @@ struct AskedContents {
     accepted: Vec<String>,
 }
 
-/// Reads the policy files, then that of the control, and then the file of the questions that may be allowed. Gives the
-/// origins of the questions too, and the documents of the policy files, where these are asked for. The notes keep the
-/// bytes of the last policy or control that was read, and why it is refused, if it is.
+/// Reads the policy files, then that of the control, and then the file of the questions that may be allowed. The notes
+/// keep the bytes of the last policy or control that was read, and why it is refused, if it is.
 fn read_questions<F: Files>(
     alloc: Global,
     asked: &Asked<'_, '_, '_>,
@@ -167,12 +133,13 @@ fn read_questions<F: Files>(
     files: &mut F,
     notes: &mut Notes,
 ) -> Result<(AskedContents, Vec<Document>, Vec<Document>), Fault>
-    ensures read { IfOk result (λ r. IsAskedBy (F.holds files.old) asked.now (read_data r.0)) }
+    ensures read { IfOk result (λ r. IsAskedBy (F.holds files.old) (asked_data asked.now)
+        (read_data r.0)) }
     ensures placed { IfOk result (λ r. HasOrigins with_origins (F.holds files.old)
-        asked.now.policies r.0.questions.items (map view r.1.items)) }
+        asked.now.policies.now r.0.questions.items (map view r.1.items)) }
     ensures told { IfOk result (λ r. HasFiles with_documents (F.holds files.old) Policy
-        asked.now.policies (map view r.2.items)) }
-    ensures refused { IfErr result (RefusesAsked (F.holds files.old) asked.now) }
+        asked.now.policies.now (map view r.2.items)) }
+    ensures refused { IfErr result (RefusesAsked (F.holds files.old) (asked_data asked.now)) }
     ensures same { (p : List ℕ) → F.holds files.new p ≡ F.holds files.old p }
 {
     let policies = all_questions_in(
@@ -198,7 +165,6 @@ fn read_questions<F: Files>(
     Ok((read, origins, documents))
 }
 
-/// The replies to the questions of a control, which may be none.
 fn replies_to<R: Threads + Wait + Sync, G: Gate>(
     means: &Means<'_, '_, R, G>,
     settled: &Settled,
@@ -240,7 +206,6 @@ fn audit_filters<R: Threads + Wait + Sync, G: Gate>(
     Ok((outcome, expected))
 }
 
-/// The lines behind a report, which say what isn't as expected.
 fn lines_behind(
     alloc: Global,
     telling: &Telling<'_>,
@@ -257,7 +222,6 @@ fn lines_behind(
     }
 }
 
-/// Why the stack answers as it does to the example of a reply.
 fn remark_of(alloc: Global, names: &[Names], stack: &Stack, reply: Reply) -> Result<String, Fault>
     ensures shown { IfOk result (λ text. IsRemark names.now stack.now reply
         (string_bytes text)) }
@@ -303,7 +267,6 @@ fn remarks_if_asked(
     remarks_of(alloc, names, outcome.settled().stack(), outcome.replies())
 }
 
-/// Writes the report of an audit, and behind it what isn't as expected.
 fn write_whole_report<O: Write>(
     alloc: Global,
     telling: &Telling<'_>,
@@ -399,11 +362,8 @@ fn write_audit<O: Write>(
     write_text(alloc, told, out)
 }
 
-/// Reads the files that ask and then the stack, audits it, writes the report, and gives the exit status. Where it is
-/// said what is expected, the lines that say what isn't as expected stand behind the report. A summary, where one is
-/// asked for, takes the place of the report, and begins with the files that it is asked by. The notes get the warnings.
-/// The gate sees each work before it is committed, and each sheet of verdicts before it is entered. At the end `files`
-/// takes over the outcome.
+/// Reads the files that ask and then the stack, audits it, writes what is found, and gives the exit status. The notes
+/// get the warnings, and at the end `files` takes over the outcome.
 pub fn audit<R: Threads + Wait + Sync, F: Files, G: Gate, O: Write>(
     means: &Means<'_, '_, R, G>,
     task: &AuditTask<'_, '_, '_, '_, '_>,
@@ -413,19 +373,19 @@ pub fn audit<R: Threads + Wait + Sync, F: Files, G: Gate, O: Write>(
 ) -> Result<u8, Fault>
     requires workers { (0 < task.now.terms.workers) × (task.now.terms.workers ≤ 64) }
     ensures written { IfOk result (λ s. AuditsFiles task.now.version.now (F.holds files.old)
-        task.now.asked.now task.now.paths.now task.now.names.now task.now.terms.budget
+        (asked_data task.now.asked.now) task.now.paths.now task.now.names.now task.now.terms.budget
         task.now.terms.regions task.now.terms.why task.now.terms.text task.now.terms.json s
         (O.contents out.old) (O.contents out.new)) }
     ensures status { IfOk result (λ s. s ≤ 2) }
-    ensures refused { IfErr result (RefusesAudit (F.holds files.old) task.now.asked.now
-        task.now.paths.now) }
+    ensures refused { IfErr result (RefusesAudit (F.holds files.old)
+        (asked_data task.now.asked.now) task.now.paths.now) }
     ensures quiet { IfErr result (λ e. (e ≡ WriteFault) ⊎ (out.new ≡ out.old)) }
 {
     let (alloc, terms, names) = (means.alloc, task.terms, task.names);
     let placed = are_placed(terms);
     let asked = task.asked;
     let (read, origins, policies) = read_questions(alloc, asked, placed, terms.json, files, notes)?;
-    let groups = groups_in(alloc, asked.groups_path(), asked.has_groups(), files, notes)?;
+    let groups = groups_in(alloc, asked.groups, asked.has_groups, files, notes)?;
     let (stack, filters) = read_stack(alloc, task.paths, terms.json, files, notes)?;
     let documents = join_documents(policies, filters)?;
     let (outcome, expected) = audit_filters(means, stack, read, terms)?;

@@ -18,9 +18,17 @@ use sf_stack::Fault;
 use std::alloc::Global;
 use std::io::Write;
 
-/// How a comparison is done, and what is written of it.
-#[derive(Clone, Copy)]
-pub struct ComparisonTerms {
+/// What a comparison is asked for.
+#[derive(Drop)]
+pub struct ComparisonTask<'t, 'm, 'a> {
+    /// The paths of filter files, in order of installation, as those of `new`.
+    pub old: &'m [&'a str],
+    pub new: &'m [&'a str],
+    pub sets: &'t [Names],
+    /// The calls whose rows are written, as for a listing. They count only where `rows` is set.
+    pub calls: &'t Option<Vec<&'a str>>,
+    /// The line of the program's version, which a JSON document shows.
+    pub version: &'t str,
     /// The most nodes that the decision diagrams may have, 1 to 16,000,000.
     pub nodes: u32,
     /// The relation that the exit status is about.
@@ -29,20 +37,6 @@ pub struct ComparisonTerms {
     /// Of the rows only those whose answers have this relation. It counts only where `rows` is set.
     pub only: Option<Relation>,
     pub json: bool,
-}
-
-/// What a comparison is asked for.
-#[derive(Drop)]
-pub struct ComparisonTask<'t, 'm, 'a> {
-    /// The paths of filter files, in order of installation, as those of `new`.
-    pub old: &'m [&'a str],
-    pub new: &'m [&'a str],
-    pub sets: &'t [Names],
-    /// The calls whose rows are written, as for a listing. They count only where `terms.rows` is set.
-    pub calls: &'t Option<Vec<&'a str>>,
-    /// The line of the program's version, which a JSON document shows.
-    pub version: &'t str,
-    pub terms: ComparisonTerms,
 }
 
 fn write_found<O: Write>(
@@ -98,30 +92,31 @@ fn write_compared<O: Write>(
     documents: Vec<Document>,
     out: &mut O,
 ) -> Result<(), Fault>
-    ensures written { OnOk result (WritesCompared task.now.terms.rows task.now.terms.json
+    ensures written { OnOk result (WritesCompared task.now.rows task.now.json
         task.now.version.now (map view documents.items) task.now.sets.now (record {
-          only = task.now.terms.only;
+          only = task.now.only;
           calls = option_map (λ v. map (λ t. t.now) v.items) task.now.calls.now;
         })
         comparison.now (O.contents out.old) (O.contents out.new)) }
     ensures refused { IfErr result (λ e. (e ≡ WriteFault)
-        ⊎ (((e ≡ MemoryFault) ⊎ ((e ≡ TooLargeFault task.now.terms.nodes) ⊎ (e ≡ TooManyRows)))
+        ⊎ (((e ≡ MemoryFault) ⊎ ((e ≡ TooLargeFault task.now.nodes) ⊎ (e ≡ TooManyRows)))
         × (out.new ≡ out.old))) }
 {
-    let (sets, calls, json) = (task.sets, task.calls, task.terms.json);
+    let (sets, calls, json) = (task.sets, task.calls, task.json);
     let identity = Identity {
         version: task.version,
         files: documents,
     };
-    if !task.terms.rows {
+    if !task.rows {
         return write_found(alloc, comparison, sets, json, identity, out);
     }
-    let (nodes, only) = (task.terms.nodes, task.terms.only);
+    let (nodes, only) = (task.nodes, task.only);
     let changes = list_changes(alloc, nodes, comparison, only, sets, calls)?;
     write_rows(alloc, comparison, &changes, sets, json, identity, out)
 }
 
 /// Reads two stacks, compares them, writes what is found, and gives the exit status. The notes get the warnings.
+#[tactic(auto, using(sf_evaluate::specs::laws::FilesLaws::handed_on))]
 pub fn compare<F: Files, O: Write>(
     alloc: Global,
     task: &ComparisonTask<'_, '_, '_>,
@@ -130,21 +125,21 @@ pub fn compare<F: Files, O: Write>(
     out: &mut O,
 ) -> Result<u8, Fault>
     ensures written { IfOk result (λ s. ComparesFiles (F.holds files.old) task.now.old.now
-        task.now.new.now task.now.version.now task.now.sets.now task.now.terms.asked
-        task.now.terms.rows task.now.terms.json (record {
-          only = task.now.terms.only;
+        task.now.new.now task.now.version.now task.now.sets.now task.now.asked
+        task.now.rows task.now.json (record {
+          only = task.now.only;
           calls = option_map (λ v. map (λ t. t.now) v.items) task.now.calls.now;
         }) s
         (O.contents out.old) (O.contents out.new)) }
     ensures status { IfOk result (λ s. s ≤ 1) }
     ensures refused { IfErr result (RefusesComparison (F.holds files.old) task.now.old.now
-        task.now.new.now task.now.terms.nodes) }
+        task.now.new.now task.now.nodes) }
     ensures quiet { IfErr result (λ e. (e ≡ WriteFault) ⊎ (out.new ≡ out.old)) }
 {
-    let json = task.terms.json;
+    let json = task.json;
     let (old, new, documents) = read_stacks(alloc, task.old, task.new, json, files, notes)?;
-    let comparison = sf_compare::compare(alloc, task.terms.nodes, old, new)?;
+    let comparison = sf_compare::compare(alloc, task.nodes, old, new)?;
     notes.warnings = warnings_of_comparison(alloc, &comparison);
     write_compared(alloc, &comparison, task, documents, out)?;
-    Ok(status_of_finding(comparison.finding(task.terms.asked)))
+    Ok(status_of_finding(comparison.finding(task.asked)))
 }

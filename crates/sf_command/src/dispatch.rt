@@ -70,13 +70,9 @@ fn run<R: Threads + Wait + Sync, F: Files, M: Meter, O: Write>(
     }
 }
 
-/// Does what the words after the program's name ask for, and gives the exit status, or the fault for which that could
-/// not be done. After a fault of a subcommand the notes have what `explain` keeps in them: which policy is refused, and
-/// the lines that explain the fault, if they are asked for. After a subcommand without a fault its warnings are written
-/// to standard error, unless `--quiet` is given. Where the words of a subcommand don't fit, lines that say so are
-/// written there instead.
-///
-/// Where `clap` gives no matches, as where help is asked for, `write_usage` writes a text.
+/// Does what the words after the program's name ask for, and gives the exit status. After a fault of a subcommand the
+/// notes have what `explain` keeps in them. After a subcommand without a fault its warnings are written to standard
+/// error, unless `--quiet` is given, or lines that say which of its words don't fit.
 fn run_words<R: Threads + Wait + Sync, F: Files, M: Meter, O: Write, E: Write>(
     means: &Means<'_, '_, R, M>,
     version: &str,

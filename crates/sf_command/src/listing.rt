@@ -85,8 +85,8 @@ fn write_listed<O: Write>(
     }
 }
 
-/// Lists a stack, with these calls in place of those of the task. A JSON document shows these documents of files. The
-/// notes get the warnings.
+/// Lists a stack, with these calls in place of those of the task. The notes get the warnings.
+#[tactic(auto, using(sf_evaluate::specs::laws::FilesLaws::handed_on))]
 fn list_stack<O: Write>(
     alloc: Global,
     stack: Stack,
@@ -113,8 +113,8 @@ fn list_stack<O: Write>(
     write_listed(alloc, &listing, task.sets, task.form, identity, out)
 }
 
-/// Reads a stack, and writes the rows of its answers, or a digest of them, as the task asks. A digest is that of all
-/// rows, each by itself. The notes get the warnings.
+/// Reads a stack, and writes the rows of its answers, or a digest of them. The notes get the warnings.
+#[tactic(auto, using(sf_evaluate::specs::laws::FilesLaws::handed_on))]
 pub fn list<F: Files, O: Write>(
     alloc: Global,
     task: &ListingTask<'_, '_, '_>,

@@ -48,6 +48,7 @@ fn write_needs<O: Write>(
 }
 
 /// Finds which filters of a stack are needed, and gives the exit status.
+#[tactic(auto, using(sf_evaluate::specs::laws::FilesLaws::handed_on))]
 pub fn needed<F: Files, O: Write>(
     alloc: Global,
     task: &NeededTask<'_, '_, '_>,

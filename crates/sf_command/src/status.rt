@@ -7,8 +7,6 @@ use sf_audit::{Expected, Outcome, count_unsettled};
 use sf_needed::NeededFilters;
 use sf_relations::Example;
 
-/// The exit status of an audit: 2 where the control doesn't hold; else 1 where an allowed question has a name that
-/// isn't an accepted one; else 2 where some question of the audit is unsettled; else 0.
 pub fn status_of_audit(expected: &Expected, outcome: &Outcome) -> u8
     ensures status { result ≡ audit_status expected.now outcome.now }
     ensures few { result ≤ 2 }
@@ -24,8 +22,6 @@ pub fn status_of_audit(expected: &Expected, outcome: &Outcome) -> u8
     }
 }
 
-/// The exit status of a comparison, by what was found of the relation that it is about: 0 where no input has this
-/// relation between its two answers, 1 where one has.
 pub fn status_of_finding(finding: Option<Example>) -> u8
     ensures status { result ≡ finding_status finding }
     ensures few { result ≤ 1 }
@@ -36,7 +32,6 @@ pub fn status_of_finding(finding: Option<Example>) -> u8
     }
 }
 
-/// The exit status of `needed`, by what was found of the filters: 1 where some filter is spare, 0 where all are needed.
 pub fn status_of_needs(needs: &NeededFilters) -> u8
     ensures status { result ≡ needs_status needs.now.findings }
     ensures few { result ≤ 1 }

@@ -1,25 +1,26 @@
 //! The subcommands that take filters: each reads its words from the matches, and does what they ask for.
 ghost use Rattle.std.specs.Prelude.{◌≡◌, ◌≢◌, ◌≤◌, ◌⊎◌, ℕ, List, Some, codes, option_map, IfOk, IfErr};
-ghost use Rattle.clap.specs.Words.{first_of, found_of, one_of, rows_of};
+ghost use Rattle.clap.specs.Words.{first_of, found_of, rows_of};
 ghost use Rattle.sf_stack.specs.declared.fault.Fault.TheVariants.{Write as WriteFault};
 ghost use Rattle.sf_command.specs.Audits.{AskedData, RefusesAudit};
 ghost use Rattle.sf_command.specs.Comparisons.{RefusesComparison};
 ghost use Rattle.sf_command.specs.Diagrams.{RefusesList, RefusesStack};
+ghost use Rattle.sf_evaluate.specs.Asking.{RefusesNamed};
 ghost use Rattle.sf_evaluate.specs.Outputs.{RefusesCheck};
-ghost use Rattle.sf_command.specs.Subcommands.{Audits, Checks, Compares, Evaluates, RunsAs, IsAskedFor, IsAskedForm, IsAskedRelation, Lists, Needs, OnCalls, OnNames, OnNodes, OnPaths, RefusesEval, RefusesOnStack, groups_path, relation_of_rows, relation_named, text_form};
+ghost use Rattle.sf_command.specs.Subcommands.{Audits, Checks, Compares, Evaluates, RunsAs, IsAskedFor, Lists, Needs, OnCalls, OnNodes, OnPaths, RefusesEval, RefusesOnStack, groups_path, listing_form, relation_named, relation_of_status, text_form};
 ghost use Rattle.sf_command_line.specs.CommandLine.{IsKnown};
 
 use crate::auditing::{Asked, AuditTask, AuditTerms, TextForm, audit};
-use crate::comparing::{ComparisonTask, ComparisonTerms, compare};
+use crate::comparing::{ComparisonTask, compare};
 use crate::listing::{ListingForm, ListingTask, list};
 use crate::means::Means;
 use crate::needing::{NeededTask, needed};
 use crate::watching::{Meter, Watched};
 use clap::ArgMatches;
-use sf_command_line::{budget_of, given_text, is_on, nodes_of, text_of, workers_of};
+use sf_command_line::{budget_of, given_text, nodes_of, workers_of};
 use sf_evaluate::{
     CheckManner, Evaluation, Files, INSTALLED_GROUPS, Manner, Notes, asked_input, check, evaluate,
-    is_given, known_calls, numbers_fit, read_needed_names, wants_summary,
+    is_given, is_switched_on, known_calls, numbers_fit, read_needed_names, wants_summary,
 };
 use sf_names::Names;
 use sf_relations::Relation;
@@ -29,31 +30,18 @@ use std::io::Write;
 use std::sync::Wait;
 use std::thread::Threads;
 
-fn watched<'a, M: Meter>(found: &ArgMatches<'_>, meter: &'a M) -> Watched<'a, M> {
-    Watched::of(meter, is_on(found, "progress"), budget_of(found))
-}
-
-fn with_gate<'r, 'g, R, M, G>(means: &Means<'r, '_, R, M>, gate: &'g G) -> Means<'r, 'g, R, G> {
-    Means {
-        rt: means.rt,
-        alloc: means.alloc,
-        gate,
-    }
-}
-
 fn text_form(found: &ArgMatches<'_>) -> TextForm
     ensures { result ≡ text_form (rows_of (found_of found.now)) }
 {
-    if text_of(found, "summary-all") == "true" {
+    if is_switched_on(found, "summary-all") {
         TextForm::SummaryOfAll
-    } else if text_of(found, "summary") == "true" {
+    } else if is_switched_on(found, "summary") {
         TextForm::Summary
     } else {
         TextForm::Report
     }
 }
 
-/// The path of the file of the groups of a summary, if one is asked for: the installed one where none is given.
 fn groups_path<'a>(found: &ArgMatches<'a>) -> Option<&'a str>
     ensures { option_map (λ t. t.now) result ≡ groups_path (rows_of (found_of found.now)) }
 {
@@ -80,21 +68,21 @@ fn run_audit<R: Threads + Wait + Sync, F: Files, M: Meter, O: Write>(
         (rows_of (found_of found.now)) s (O.contents out.old) (O.contents out.new)) }
     ensures status { IfOk result (λ s. s ≤ 2) }
     ensures quiet { IfErr result (λ e. (e ≡ WriteFault) ⊎ (out.new ≡ out.old)) }
-    ensures refused { IfErr result (λ e. OnNames (F.holds files.old)
+    ensures refused { IfErr result (λ e. RefusesNamed (F.holds files.old)
         (rows_of (found_of found.now)) e
-        (OnPaths (codes "filters") (rows_of (found_of found.now))
+        ⊎ OnPaths (codes "filters") (rows_of (found_of found.now))
         (λ paths. (asked : AskedData) × IsAskedFor (rows_of (found_of found.now)) asked
-        × RefusesAudit (F.holds files.old) asked paths e))) }
+        × RefusesAudit (F.holds files.old) asked paths e)) }
 {
     let names = read_needed_names(means.alloc, found, files, notes)?;
     let paths = found.get_strs("filters").unwrap_or(&[]);
     let terms = AuditTerms {
         budget: budget_of(found),
         workers: workers_of(found),
-        regions: is_on(found, "regions"),
-        why: is_on(found, "why"),
+        regions: is_switched_on(found, "regions"),
+        why: is_switched_on(found, "why"),
         text: text_form(found),
-        json: is_on(found, "json"),
+        json: is_switched_on(found, "json"),
     };
     let asked = Asked {
         policies: found.get_strs("policy").unwrap_or(&[]),
@@ -111,8 +99,17 @@ fn run_audit<R: Threads + Wait + Sync, F: Files, M: Meter, O: Write>(
         version,
         terms,
     };
-    let gate = watched(found, means.gate);
-    audit(&with_gate(means, &gate), &task, files, notes, out)
+    let gate = Watched::of(
+        means.gate,
+        is_switched_on(found, "progress"),
+        budget_of(found),
+    );
+    let means = Means {
+        rt: means.rt,
+        alloc: means.alloc,
+        gate: &gate,
+    };
+    audit(&means, &task, files, notes, out)
 }
 
 fn run_check<F: Files, O: Write>(
@@ -131,8 +128,8 @@ fn run_check<F: Files, O: Write>(
 {
     let paths = found.get_strs("filters").unwrap_or(&[]);
     let how = CheckManner {
-        listed: is_on(found, "instructions"),
-        json: is_on(found, "json"),
+        listed: is_switched_on(found, "instructions"),
+        json: is_switched_on(found, "json"),
     };
     check(alloc, version, paths, how, files, notes, out)?;
     Ok(0)
@@ -149,9 +146,9 @@ fn run_eval<F: Files, O: Write>(
     ensures done { IfOk result (λ s. Evaluates version.now (F.holds files.old)
         (rows_of (found_of found.now)) s (O.contents out.old) (O.contents out.new)) }
     ensures quiet { IfErr result (λ e. (e ≡ WriteFault) ⊎ (out.new ≡ out.old)) }
-    ensures refused { IfErr result (λ e. OnNames (F.holds files.old)
+    ensures refused { IfErr result (λ e. RefusesNamed (F.holds files.old)
         (rows_of (found_of found.now)) e
-        (RefusesEval (F.holds files.old) (rows_of (found_of found.now)) e)) }
+        ⊎ RefusesEval (F.holds files.old) (rows_of (found_of found.now)) e) }
 {
     if !numbers_fit(found) {
         return Err(Fault::Input);
@@ -160,9 +157,9 @@ fn run_eval<F: Files, O: Write>(
     let input = asked_input(found, &names, notes)?;
     let paths = found.get_strs("filters").unwrap_or(&[]);
     let how = Manner {
-        traced: is_on(found, "trace"),
-        brief: is_on(found, "trace-true"),
-        json: is_on(found, "json"),
+        traced: is_switched_on(found, "trace"),
+        brief: is_switched_on(found, "trace-true"),
+        json: is_switched_on(found, "json"),
     };
     let asked = Evaluation {
         input: &input,
@@ -174,19 +171,17 @@ fn run_eval<F: Files, O: Write>(
     Ok(0)
 }
 
-/// The relation that the exit status of a comparison is about.
 fn relation_of_status(found: &ArgMatches<'_>) -> Relation
-    ensures { IsAskedRelation (one_of (codes "same") (rows_of (found_of found.now))) result }
+    ensures { result ≡ relation_of_status (rows_of (found_of found.now)) }
 {
-    if is_on(found, "same") {
+    if is_switched_on(found, "same") {
         Relation::Different
     } else {
         Relation::Looser
     }
 }
 
-/// The relation that a word of `--only` names. Each word but `looser` and `tighter` gives `Different`: `rows_fit` has
-/// let only `different` through beside them.
+/// Each other word is `different`: `rows_fit` has let no other through.
 fn relation_named(word: &str) -> Relation
     ensures { result ≡ relation_named word.now }
 {
@@ -197,9 +192,9 @@ fn relation_named(word: &str) -> Relation
     }
 }
 
-/// The relation that `--only` names; `None` where it isn't given: then all rows with a difference are shown.
 fn relation_of_rows(found: &ArgMatches<'_>) -> Option<Relation>
-    ensures { result ≡ relation_of_rows (first_of (codes "only") (rows_of (found_of found.now))) }
+    ensures { result
+        ≡ option_map relation_named (first_of (codes "only") (rows_of (found_of found.now))) }
 {
     match given_text(found, "only") {
         Some(word) => Some(relation_named(word)),
@@ -228,32 +223,28 @@ fn run_compare<F: Files, O: Write>(
 {
     let names = read_needed_names(alloc, found, files, notes)?;
     let calls = known_calls(alloc, found, &names, notes)?;
-    let terms = ComparisonTerms {
-        nodes: nodes_of(found),
-        asked: relation_of_status(found),
-        rows: is_on(found, "rows"),
-        only: relation_of_rows(found),
-        json: is_on(found, "json"),
-    };
     let task = ComparisonTask {
         old: found.get_strs("old").unwrap_or(&[]),
         new: found.get_strs("new").unwrap_or(&[]),
         sets: &names,
         calls: &calls,
         version,
-        terms,
+        nodes: nodes_of(found),
+        asked: relation_of_status(found),
+        rows: is_switched_on(found, "rows"),
+        only: relation_of_rows(found),
+        json: is_switched_on(found, "json"),
     };
     compare(alloc, &task, files, notes, out)
 }
 
 /// `--digest` and `--json` don't come together, as `words_fit_for` has seen.
 fn form_of(found: &ArgMatches<'_>) -> ListingForm
-    ensures { IsAskedForm (rows_of (found_of found.now)) result }
+    ensures { result ≡ listing_form (rows_of (found_of found.now)) }
 {
-    let (digest, json) = (is_on(found, "digest"), is_on(found, "json"));
-    if digest {
+    if is_switched_on(found, "digest") {
         ListingForm::Digest
-    } else if json {
+    } else if is_switched_on(found, "json") {
         ListingForm::Json
     } else {
         ListingForm::Text
@@ -308,11 +299,9 @@ fn run_needed<F: Files, O: Write>(
         (λ paths. OnNodes (rows_of (found_of found.now))
         (λ nodes. RefusesStack (F.holds files.old) paths nodes e))) }
 {
-    let paths = found.get_strs("filters").unwrap_or(&[]);
-    let json = is_on(found, "json");
     let task = NeededTask {
-        paths,
-        json,
+        paths: found.get_strs("filters").unwrap_or(&[]),
+        json: is_switched_on(found, "json"),
         version,
         nodes: nodes_of(found),
     };

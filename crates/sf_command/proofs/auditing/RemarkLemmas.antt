@@ -1,10 +1,5 @@
 -- The remarks on replies, one more at a time.
-use Rattle.std.proofs.Common.{◌≡◌, List, [], ◌∷◌, ◌++◌, ℕ, ◌+◌, ◌<◌, get_or, length, map, take}
-use Rattle.std.proofs.lemmas.List.{map-append, take_more}
-use Rattle.sf_check.specs.declared.insn.Insn.{Insn}
-use Rattle.sf_ask.specs.declared.verdict.Reply.{Reply}
-use Rattle.sf_names.specs.Names.{NamesData}
-use Rattle.sf_command.specs.Audits.{AreRemarks, IsRemark}
+use Rattle.sf_command.proofs.Common.{◌≡◌, List, [], ◌∷◌, ◌++◌, ℕ, ◌+◌, ◌<◌, get_or, length, map, take, map-append, take_more, Insn, Reply, NamesData, AreRemarks, IsRemark}
 
 one_more_remark : (names : List NamesData) (programs : List (List Insn)) (replies : List Reply) (reply : Reply)
     (remarks : List (List ℕ)) (remark : List ℕ) → AreRemarks names programs replies remarks

@@ -1,23 +1,10 @@
 -- What `clap` says of words that don't fit the form of the command line.
-use Rattle.std.proofs.Common.{◌≡◌, ◌≢◌, ◌⊎◌, ◌≤◌, ◌∙◌, ap, codes, true, false, inl, inr, ℕ, Bool, List, [], Result, Ok, Err, arith, refl, subst, sym}
-use Rattle.std.specs.Prelude.{◌==◌, IfOk, Option, if◌then◌else◌, nat_lt}
-use Rattle.std.specs.Io.KnownBytes.{Appends}
-use Rattle.clap.specs.Words.{HasKind, IsAmong, Kinds, Row, Text, kind_of}
-use Rattle.clap.specs.declared.error.Error.{Error}
-use Rattle.clap.specs.declared.error.kind.ErrorKind.TheVariants.{DisplayVersion, OutOfMemory}
-use Rattle.sf_command_line.specs.CommandLine.{IsKnown, errors_at, subcommand_at}
-use Rattle.sf_command_line.specs.laws.SubcommandLaws.{known_subcommand}
-use Rattle.sf_stack.specs.declared.fault.Fault.TheVariants.{TooLarge, TooManyRows, Write}
+use Rattle.sf_command.proofs.Common.{◌≡◌, ◌≢◌, ◌⊎◌, ◌≤◌, ◌∙◌, ap, codes, true, false, inl, inr, ℕ, Bool, List, [], Result, Ok, Err, arith, subst, sym, ◌==◌, IfOk, if◌then◌else◌, nat_lt, Appends, HasKind, IsAmong, Kinds, Row, Text, kind_of, Error, DisplayVersion, OutOfMemory, IsKnown, errors_at, subcommand_at, known_subcommand, TooLarge, TooManyRows, Write, fault_number, fault_status, Other, Profile, profile_words_fit, HasWrongWord, Helps, IsHelp, IsTooLarge, RefusesAs, RefusesAsAsked, RefusesWords, WritesText, words_fit_for, RunsAs}
+use Rattle.std.specs.Prelude.{Option}
 use Rattle.sf_profile.specs.Faults.{fault_number as profile_number}
 use Rattle.sf_profile.specs.declared.fault.Fault.{Fault as ProfileFault}
 use Rattle.sf_profile.specs.declared.fault.Fault.TheVariants as profile_faults
-use Rattle.sf_evaluate.specs.Faults.{fault_number}
-use Rattle.sf_evaluate.specs.Status.{fault_status}
 use Rattle.sf_evaluate.specs.declared.fault.Fault.{Fault}
-use Rattle.sf_evaluate.specs.declared.fault.Fault.TheVariants.{Other, Profile}
-use Rattle.sf_evaluate.specs.Profiles.{profile_words_fit}
-use Rattle.sf_command.specs.Runs.{HasWrongWord, Helps, IsHelp, IsTooLarge, RefusesAs, RefusesAsAsked, RefusesWords, WritesText, words_fit_for}
-use Rattle.sf_command.specs.Subcommands.{RunsAs}
 
 -- an answer to a call for help or for the version is what the words ask for
 pub helps : (version : Text) (words : List Text) (e : Error) (status : ℕ) (old new : Option Text)
@@ -86,40 +73,16 @@ profile_status : (refusal : ProfileFault) → fault_status (profile_number refus
 profile_status profile_faults.Memory small = omega (arith, small)
 profile_status refusal small = omega (arith, small)
 
--- too many nodes or rows are the only faults with a status up to 2
-only_too_large : (e : Fault) → fault_status (fault_number e) ≤ 2
-    → ((nodes : ℕ) × (e ≡ Other (TooLarge nodes))) ⊎ (e ≡ Other TooManyRows)
-only_too_large (Profile refusal) small = absurd (profile_status refusal small)
-only_too_large (Other (TooLarge nodes)) small = inl (nodes, refl)
-only_too_large (Other TooManyRows) small = inr refl
-only_too_large (Other fault) small = absurd (omega (arith, small))
-
--- nothing is written of too many nodes
-not_written : {Same : Type 0} (e : Fault) (nodes : ℕ) → e ≡ Other (TooLarge nodes) → (e ≡ Other Write) ⊎ Same → Same
-not_written e nodes large (inl write) = cc
-not_written e nodes large (inr same) = same
-
--- nor of too many rows
-no_row_written : {Same : Type 0} (e : Fault) → e ≡ Other TooManyRows → (e ≡ Other Write) ⊎ Same → Same
-no_row_written e rows (inl write) = cc
-no_row_written e rows (inr same) = same
-
 -- where the status of a fault is at most 2, nodes or rows are too many, and nothing was written
 pub too_large : (holds : Text → Option Text) (words : List Text) (e : Fault) (status : ℕ) (Same : Type 0)
     → RefusesAsAsked holds words e → status ≡ fault_status (fault_number e) → (e ≡ Other Write) ⊎ Same → status ≤ 2
     → (status ≡ 2) × Same × IsTooLarge holds words
-too_large holds words e status Same why is quiet small =
-    by (only_too_large e (subst (λ (s : ℕ). s ≤ 2) is small))
-  where
-    by : ((nodes : ℕ) × (e ≡ Other (TooLarge nodes))) ⊎ (e ≡ Other TooManyRows)
-        → (status ≡ 2) × Same × IsTooLarge holds words
-    by (inl (nodes, large)) = (
-      is ∙ ap (λ (f : Fault). fault_status (fault_number f)) large,
-      not_written e nodes large quiet,
-      inl (nodes, subst (λ (f : Fault). RefusesAsAsked holds words f) large why),
-    )
-    by (inr rows) = (
-      is ∙ ap (λ (f : Fault). fault_status (fault_number f)) rows,
-      no_row_written e rows quiet,
-      inr (subst (λ (f : Fault). RefusesAsAsked holds words f) rows why),
-    )
+too_large holds words e status Same _ is (inl write) small =
+    let five : status ≡ fault_status (fault_number (Other Write)) = is
+    ∙ ap (λ (f : Fault). fault_status (fault_number f)) write in
+    absurd (omega (arith, five, small))
+too_large holds words (Profile refusal) status Same _ is (inr same) small =
+    absurd (profile_status refusal (subst (λ (s : ℕ). s ≤ 2) is small))
+too_large holds words (Other (TooLarge nodes)) status Same why is (inr same) small = (is, same, inl (nodes, why))
+too_large holds words (Other TooManyRows) status Same why is (inr same) small = (is, same, inr why)
+too_large holds words (Other fault) status Same _ is (inr same) small = absurd (omega (arith, is, small))

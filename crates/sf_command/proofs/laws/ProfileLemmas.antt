@@ -1,20 +1,5 @@
 -- The filter of a profile, compared with other filters.
-use Rattle.std.proofs.Common.{◌≡◌, ◌∙◌, ℕ, List, [], ◌∷◌, Option, None, ap, refl, subst, sym}
-use Rattle.sf_insn.specs.declared.input.Input.{Input}
-use Rattle.sf_insn.specs.Inputs.{IsInput}
-use Rattle.sf_check.specs.declared.insn.Insn.{Insn}
-use Rattle.sf_check.specs.Programs.{SpellsProgram}
-use Rattle.sf_run.specs.Answers.{Answers}
-use Rattle.sf_run.specs.declared.action.Answer.{Answer}
-use Rattle.sf_stack.specs.Filters.{SpellPrograms, SpellStack}
-use Rattle.sf_profile.specs.Data.{PlanData}
-use Rattle.sf_profile.specs.Filters.{IsFilterOf}
-use Rattle.sf_profile.specs.Meaning.{meaning}
-use Rattle.sf_relations.specs.Changes.{IsFinding, IsUnchanged}
-use Rattle.sf_relations.specs.Relations.{AreRelated}
-use Rattle.sf_relations.specs.declared.examples.Example.{Example}
-use Rattle.sf_relations.specs.declared.relation.Relation.TheVariants.{Looser}
-use Rattle.sf_compare.specs.Comparisons.{Compared, IsComparison, finding_of}
+use Rattle.sf_command.proofs.Common.{◌≡◌, ◌∙◌, ℕ, List, [], ◌∷◌, Option, None, ap, refl, subst, sym, Input, IsInput, Insn, SpellsProgram, Answers, Answer, SpellPrograms, SpellStack, PlanData, IsFilterOf, meaning, IsFinding, IsUnchanged, AreRelated, Example, Looser, Compared, IsComparison, finding_of}
 
 pub kept : ((bytes : List ℕ) (a b : List Insn) → SpellsProgram bytes a → SpellsProgram bytes b → a ≡ b)
     → (bytes : List ℕ) (plan : PlanData) (c : Compared) (d : Input) (a : Answer)

@@ -1,12 +1,6 @@
 -- What words ask for, and the names that they need.
-use Rattle.std.proofs.Common.{◌≡◌, ◌⊎◌, true, false, inl, inr, List, Option}
-use Rattle.sf_stack.specs.declared.fault.Fault.{Fault}
-use Rattle.sf_stack.specs.declared.fault.Fault.TheVariants.{Input as InputFault, Memory, UnknownName}
-use Rattle.sf_names.specs.Names.{NamesData}
-use Rattle.sf_evaluate.specs.Asking.{AreNamed, LacksName, numbers_fit}
-use Rattle.clap.specs.Words.{Row, Text}
-use Rattle.sf_command.specs.Subcommands.{OnCalls, RefusesEval}
-use Rattle.sf_evaluate.specs.Wanted.{are_known, calls_asked}
+use Rattle.sf_command.proofs.Common.{◌≡◌, ◌⊎◌, true, false, inl, inr, List, Option, Fault, Memory, UnknownName, NamesData, AreNamed, LacksName, numbers_fit, Row, Text, OnCalls, RefusesEval, are_known, calls_asked}
+use Rattle.sf_stack.specs.declared.fault.Fault.TheVariants.{Input as InputFault}
 
 -- where no input is asked for, though it is spelled, a name is unknown
 pub asked_why : (holds : Text → Option Text) (rows : List Row) (names : List NamesData) (e : Fault)

@@ -1,9 +1,5 @@
-use Rattle.std.proofs.Common.{inl, inr, map, string_bytes}
-use Rattle.std.proofs.Math.Path.{fun_ext}
-use Rattle.serde_json.specs.View.{view}
-use Rattle.sf_command.specs.Audits.{read_data}
+use Rattle.sf_command.proofs.Common.{inl, inr, map, string_bytes, fun_ext, view, read_data, handed_on}
 use Rattle.sf_command.proofs.RefusalLemmas.{audit_why, unwritten_audit, without_second}
-use Rattle.sf_evaluate.specs.laws.FilesLaws.{handed_on}
 use Rattle.sf_command.proofs.auditing.audit.Goals as goal
 
 pub returns-clause-written : goal.returns-clause-written
@@ -13,8 +9,7 @@ returns-clause-written g c = record {
   origins = map view c.in_ok-read.origins.items;
   placed = rw c.are_placed-placed.ensures at c.in_ok-read.ensures.placed;
   groups = c.in_ok-groups.groups.items;
-  grouped = rw (c.groups_path.ensures, c.has_groups.ensures, fun_ext c.in_ok-read.ensures.same) at
-      c.in_ok-groups.ensures.meant;
+  grouped = rw (fun_ext c.in_ok-read.ensures.same) at c.in_ok-groups.ensures.meant;
   stack = c.in_ok-stack.stack;
   held = rw (fun_ext c.in_ok-groups.ensures.same, fun_ext c.in_ok-read.ensures.same) at c.in_ok-stack.ensures.held;
   files = map view c.in_ok-documents.documents.items;
@@ -48,7 +43,7 @@ pub returns-in_err-groups-clause-refused : goal.returns-in_err-groups-clause-ref
 returns-in_err-groups-clause-refused g c =
     handed_on _ c.from_residual-in_err-groups.result c.in_err-groups.field-0.0 c.from_residual-in_err-groups.ensures.1
     (inr (inr (inl (inr (inr (inr
-    (rw (c.groups_path.ensures, fun_ext c.in_ok-read.ensures.same) at c.in_err-groups.ensures.refused)))))))
+    (rw (fun_ext c.in_ok-read.ensures.same) at c.in_err-groups.ensures.refused)))))))
 
 pub returns-in_err-stack-clause-refused : goal.returns-in_err-stack-clause-refused
 returns-in_err-stack-clause-refused g c =

@@ -1,5 +1,4 @@
-use Rattle.sf_evaluate.specs.laws.FilesLaws.{handed_on}
-use Rattle.sf_command.specs.Audits.{read_data}
+use Rattle.sf_command.proofs.Common.{handed_on, read_data}
 use Rattle.sf_command.proofs.RefusalLemmas.{control_miscounted, miscounted}
 use Rattle.sf_command.proofs.auditing.audit_filters.Goals as goal
 

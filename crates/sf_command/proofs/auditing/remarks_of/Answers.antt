@@ -1,4 +1,4 @@
-use Rattle.std.proofs.Common.{arith, string_bytes}
+use Rattle.sf_command.proofs.Common.{arith, string_bytes}
 use Rattle.sf_command.proofs.auditing.RemarkLemmas.{more_remarks}
 use Rattle.sf_command.proofs.auditing.remarks_of.Goals as goal
 

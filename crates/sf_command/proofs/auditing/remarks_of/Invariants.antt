@@ -1,5 +1,4 @@
-use Rattle.std.proofs.Common.{map, string_bytes, take}
-use Rattle.sf_command.specs.Audits.{AreRemarks}
+use Rattle.sf_command.proofs.Common.{map, string_bytes, take, AreRemarks}
 use Rattle.sf_command.proofs.auditing.remarks_of.Given as goal
 
 abbrev pub invariant-loop-reply : goal.invariant-loop-reply

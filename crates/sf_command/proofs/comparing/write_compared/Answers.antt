@@ -1,4 +1,4 @@
-use Rattle.std.proofs.lemmas.Result.{IfErr-weaker, on_ok_weaker}
+use Rattle.sf_command.proofs.Common.{IfErr-weaker, on_ok_weaker}
 use Rattle.sf_command.proofs.RefusalLemmas.{or_else}
 use Rattle.sf_command.proofs.comparing.write_compared.Goals as goal
 

@@ -1,5 +1,4 @@
-use Rattle.std.proofs.Common.{◌∙◌, inl, inr, sym}
-use Rattle.sf_evaluate.specs.Faults.{fault_number}
+use Rattle.sf_command.proofs.Common.{◌∙◌, inl, inr, sym, fault_number}
 use Rattle.sf_command.proofs.dispatch.CommandLineLemmas.{no_usage, too_large}
 use Rattle.sf_command.proofs.dispatch.command.Goals as goal
 

@@ -1,9 +1,4 @@
-use Rattle.std.proofs.Common.{Some, inl, inr, refl}
-use Rattle.std.proofs.lemmas.Result.{IfErr-weaker, IfOk-weaker}
-use Rattle.clap.specs.Words.{found_of, rows_of, subcommand_rows_of}
-use Rattle.sf_command_line.specs.laws.CommandLineLaws.{joined}
-use Rattle.sf_evaluate.specs.laws.FilesLaws.{handed_on}
-use Rattle.sf_evaluate.specs.declared.fault.Fault.TheVariants.{Other}
+use Rattle.sf_command.proofs.Common.{Some, inl, inr, refl, IfErr-weaker, IfOk-weaker, found_of, rows_of, subcommand_rows_of, joined, handed_on, Other}
 use Rattle.sf_command.proofs.dispatch.CommandLineLemmas.{done_as, profile_ran, profile_words, refused_as}
 use Rattle.sf_command.proofs.dispatch.run.Goals as goal
 

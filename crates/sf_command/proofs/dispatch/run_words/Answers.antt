@@ -1,8 +1,5 @@
-use Rattle.std.proofs.Common.{◌≡◌, ◌∙◌, [], inl, inr, refl, sym}
-use Rattle.std.proofs.lemmas.Result.{IfErr-weaker, IfOk-weaker}
-use Rattle.clap.specs.Words.{HasKind, Kinds}
+use Rattle.sf_command.proofs.Common.{◌≡◌, ◌∙◌, [], inl, inr, refl, sym, IfErr-weaker, IfOk-weaker, HasKind, Kinds, told_errors, told_subcommand}
 use Rattle.sf_command.proofs.dispatch.CommandLineLemmas.{helps, refused_as, refused_words, some_error}
-use Rattle.sf_command_line.specs.laws.CommandLineLaws.{told_errors, told_subcommand}
 use Rattle.sf_command.proofs.dispatch.run_words.Goals as goal
 
 pub returns-in-Ok-clause-done : goal.returns-in-Ok-clause-done

@@ -1,5 +1,4 @@
-use Rattle.std.proofs.Common.{◌≡◌, ◌++◌, drop, string_bytes}
-use Rattle.sf_command.specs.Audits.{source_lines}
+use Rattle.sf_command.proofs.Common.{◌≡◌, ◌++◌, drop, string_bytes, source_lines}
 use Rattle.sf_command.proofs.sources.push_sources.Given as goal
 
 abbrev pub invariant-loop-path : goal.invariant-loop-path

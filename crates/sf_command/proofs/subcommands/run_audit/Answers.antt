@@ -1,8 +1,4 @@
-use Rattle.std.proofs.Common.{codes, refl, inr}
-use Rattle.std.proofs.Math.Path.{fun_ext}
-use Rattle.std.proofs.lemmas.Result.{IfErr-weaker, IfOk-weaker}
-use Rattle.clap.specs.Words.{found_of}
-use Rattle.sf_command_line.specs.laws.OptionsLaws.{paths_found}
+use Rattle.sf_command.proofs.Common.{codes, refl, inr, fun_ext, IfErr-weaker, IfOk-weaker, found_of, paths_found}
 use Rattle.sf_command.proofs.subcommands.run_audit.Goals as goal
 
 pub returns-clause-done : goal.returns-clause-done
@@ -12,12 +8,6 @@ returns-clause-done g c = IfOk-weaker c.audit.result _ _ (λ s written. record {
       c.get_strs.ensures refl);
   budget = c.budget_of.result;
   counted = c.budget_of.ensures;
-  regions = c.is_on.result;
-  listed = c.is_on.ensures;
-  why = c.is_on-2.result;
-  explained = c.is_on-2.ensures;
-  json = c.is_on-3.result;
-  in_json = c.is_on-3.ensures;
   names = c.in_ok-names.names.items;
   called = c.in_ok-names.ensures.called;
   asked = _;
@@ -31,7 +21,14 @@ returns-clause-done g c = IfOk-weaker c.audit.result _ _ (λ s written. record {
     names = rw c.unwrap_or-2.ensures (paths_found (found_of c.args.found.now) (codes "names")
         c.get_strs-3.result _ c.get_strs-3.ensures refl);
   };
-  audited = rw (c.deref.ensures.value, fun_ext c.read_needed_names.ensures.same, c.text_form.ensures) at written;
+  audited = rw (
+    c.is_switched_on.ensures,
+    c.is_switched_on-2.ensures,
+    c.text_form.ensures,
+    c.is_switched_on-3.ensures,
+    c.deref.ensures.value,
+    fun_ext c.read_needed_names.ensures.same,
+  ) at written;
 }) c.audit.ensures.written
 
 pub returns-clause-refused : goal.returns-clause-refused

@@ -1,8 +1,4 @@
-use Rattle.std.proofs.Common.{codes, refl, inr}
-use Rattle.std.proofs.Math.Path.{fun_ext}
-use Rattle.std.proofs.lemmas.Result.{IfErr-weaker, IfOk-weaker}
-use Rattle.clap.specs.Words.{found_of}
-use Rattle.sf_command_line.specs.laws.OptionsLaws.{paths_found}
+use Rattle.sf_command.proofs.Common.{codes, refl, inr, fun_ext, IfErr-weaker, IfOk-weaker, found_of, paths_found}
 use Rattle.sf_command.proofs.subcommands.run_compare.Goals as goal
 
 pub returns-clause-done : goal.returns-clause-done
@@ -13,16 +9,13 @@ returns-clause-done g c = IfOk-weaker c.compare.result _ _ (λ s written. record
   new_paths = c.unwrap_or-2.result.now;
   named_new = rw c.unwrap_or-2.ensures (paths_found (found_of c.args.found.now) (codes "new") c.get_strs-2.result _
       c.get_strs-2.ensures refl);
-  asked = c.relation_of_status.result;
-  switched = c.relation_of_status.ensures;
-  with_rows = c.is_on.result;
-  listed = c.is_on.ensures;
-  json = c.is_on-2.result;
-  in_json = c.is_on-2.ensures;
   names = c.in_ok-names.names.items;
   called = c.in_ok-names.ensures.called;
   known = rw c.deref.ensures.value at c.in_ok-calls.ensures.known;
   compared = rw (
+    c.relation_of_status.ensures,
+    c.is_switched_on.ensures,
+    c.is_switched_on-2.ensures,
     c.relation_of_rows.ensures,
     c.in_ok-calls.ensures.asked,
     c.deref-2.ensures.value,

@@ -1,9 +1,5 @@
-use Rattle.std.proofs.Common.{codes, refl, inr}
-use Rattle.std.proofs.Math.Path.{fun_ext}
-use Rattle.clap.specs.Words.{found_of}
-use Rattle.sf_command_line.specs.laws.OptionsLaws.{paths_found}
+use Rattle.sf_command.proofs.Common.{codes, refl, inr, fun_ext, found_of, paths_found, handed_on}
 use Rattle.sf_command.proofs.subcommands.NamingLemmas.{calls_refused}
-use Rattle.sf_evaluate.specs.laws.FilesLaws.{handed_on}
 use Rattle.sf_command.proofs.subcommands.run_list.Goals as goal
 
 pub returns-clause-done : goal.returns-clause-done
@@ -14,10 +10,12 @@ returns-clause-done g c = record {
   names = c.in_ok-names.names.items;
   called = c.in_ok-names.ensures.called;
   known = rw c.deref.ensures.value at c.in_ok-calls.ensures.known;
-  form = c.form_of.result;
-  asked_form = c.form_of.ensures;
-  listed = rw (c.in_ok-calls.ensures.asked, c.deref-2.ensures.value, fun_ext c.read_needed_names.ensures.same) at
-      c.in_ok-list.ensures.written;
+  listed = rw (
+    c.form_of.ensures,
+    c.in_ok-calls.ensures.asked,
+    c.deref-2.ensures.value,
+    fun_ext c.read_needed_names.ensures.same,
+  ) at c.in_ok-list.ensures.written;
   status_is = refl;
 }
 

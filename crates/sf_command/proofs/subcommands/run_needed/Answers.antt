@@ -1,23 +1,18 @@
-use Rattle.std.proofs.Common.{codes, refl}
-use Rattle.std.proofs.lemmas.Result.{IfErr-weaker, IfOk-weaker}
-use Rattle.clap.specs.Words.{found_of}
-use Rattle.sf_command_line.specs.laws.OptionsLaws.{paths_found}
+use Rattle.sf_command.proofs.Common.{codes, refl, IfErr-weaker, IfOk-weaker, found_of, paths_found}
 use Rattle.sf_command.proofs.subcommands.run_needed.Goals as goal
 
 pub returns-clause-done : goal.returns-clause-done
 returns-clause-done g c = IfOk-weaker c.needed.result _ _ (λ s written. record {
-  paths = c.unwrap_or-paths.result.now;
-  named = rw c.unwrap_or-paths.ensures (paths_found (found_of c.args.found.now) (codes "filters") c.get_strs.result _
+  paths = c.unwrap_or.result.now;
+  named = rw c.unwrap_or.ensures (paths_found (found_of c.args.found.now) (codes "filters") c.get_strs.result _
       c.get_strs.ensures refl);
-  json = c.is_on-json.result;
-  in_json = c.is_on-json.ensures;
-  needed = written;
+  needed = rw c.is_switched_on.ensures at written;
 }) c.needed.ensures.written
 
 pub returns-clause-refused : goal.returns-clause-refused
 returns-clause-refused g c = IfErr-weaker c.needed.result _ _ (λ e why. (
-  c.unwrap_or-paths.result.now,
-  rw c.unwrap_or-paths.ensures (paths_found (found_of c.args.found.now)
+  c.unwrap_or.result.now,
+  rw c.unwrap_or.ensures (paths_found (found_of c.args.found.now)
       (codes "filters") c.get_strs.result _ c.get_strs.ensures refl),
   (c.nodes_of.result, c.nodes_of.ensures, why),
 )) c.needed.ensures.refused

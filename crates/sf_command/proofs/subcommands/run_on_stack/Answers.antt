@@ -1,5 +1,4 @@
-use Rattle.std.proofs.Common.{arith, inl, inr, refl}
-use Rattle.std.proofs.lemmas.Result.{IfErr-weaker, IfOk-weaker}
+use Rattle.sf_command.proofs.Common.{arith, inl, inr, refl, IfErr-weaker, IfOk-weaker}
 use Rattle.sf_command.proofs.subcommands.run_on_stack.Goals as goal
 
 pub returns-in-audit-clause-done : goal.returns-in-audit-clause-done

@@ -1,6 +1,4 @@
-use Rattle.std.proofs.lemmas.Grind.{common_steps}
-use Rattle.std.proofs.Common.{arith}
-use Rattle.std.proofs.lemmas.List.{map_push, map-append, take_more}
+use Rattle.sf_command.proofs.Common.{common_steps, arith, map_push, map-append, take_more}
 use Rattle.sf_command.proofs.usage.push_words.Goals as goal
 
 pub loop-word-preserved : goal.loop-word-preserved

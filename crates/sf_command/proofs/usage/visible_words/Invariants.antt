@@ -1,5 +1,4 @@
-use Rattle.std.proofs.Common.{◌≡◌, map, string_bytes, take}
-use Rattle.sf_command_line.specs.Terminal.{visible}
+use Rattle.sf_command.proofs.Common.{◌≡◌, map, string_bytes, take, visible}
 use Rattle.sf_command.proofs.usage.visible_words.Given as goal
 
 abbrev pub invariant-loop-word : goal.invariant-loop-word
