@@ -34,7 +34,7 @@ pub struct Disk<'a, R> {
 }
 
 /// The bytes of standard input. Where it is longer than `MOST_BYTES`, only one byte more than that is read, which shows
-/// the caller that it is too long. An error where it can't be read, or an allocation is refused.
+/// the caller that it is too long.
 fn bytes_of_input<R: Input + AllocGlobal>(rt: &R) -> io::Result<Vec<u8>> {
     let mut bytes = Vec::new(rt.alloc());
     rt.reader()
@@ -43,8 +43,7 @@ fn bytes_of_input<R: Input + AllocGlobal>(rt: &R) -> io::Result<Vec<u8>> {
     Ok(bytes)
 }
 
-/// The bytes of a file. Where it is longer than `MOST_BYTES`, only one byte more than that is read, which shows the
-/// caller that it is too long. An error where it can't be opened or read, or an allocation is refused.
+/// The bytes of a file, as those of standard input.
 fn bytes_of<R: FileSystem + AllocGlobal>(rt: &R, path: &str) -> io::Result<Vec<u8>> {
     let mut bytes = Vec::new(rt.alloc());
     let file = File::open(rt, path)?;
@@ -193,9 +192,8 @@ impl<R: FileSystem + Input + Env + AllocGlobal> Disk<'_, R> {
 }
 
 impl<R: FileSystem + Input + Env + AllocGlobal> Files for Disk<'_, R> {
-    /// The bytes of the file at a path; `-` is standard input, and `@NAME` a file that comes with the program. `Read`
-    /// where it can't be read, is longer than `MOST_BYTES`, or is standard input for a second time; `Memory` where an
-    /// allocation is refused. After an error `reason` says why. Where the file was read ahead, this is what was read.
+    /// The bytes of the file at a path; `-` is standard input, and `@NAME` a file that comes with the program. Where it
+    /// was read ahead, this is what was read.
     fn read(&mut self, path: &str) -> Result<Vec<u8>, Fault> {
         let read = match self.ahead_of(path) {
             Some(bytes) => Ok(bytes),
@@ -209,12 +207,10 @@ impl<R: FileSystem + Input + Env + AllocGlobal> Files for Disk<'_, R> {
         }
     }
 
-    /// Why the last file that was refused could not be read; empty before one is.
     fn reason(&self) -> &str {
         self.reason.as_str()
     }
 
-    /// Whether each fault is to be explained.
     fn explains(&self) -> bool {
         self.explains
     }

@@ -25,14 +25,10 @@ const EXPLAIN: &str = "SECCOMP_AUDIT_EXPLAIN";
 /// The arguments after the program's name. The name isn't read, so it needn't be UTF-8.
 #[derive(Drop)]
 struct AfterName<'a, R> {
-    /// What all arguments are read from, the name too.
     rt: &'a R,
 }
 
 impl<R: Env> Env for AfterName<'_, R> {
-    /// Writes into `buf` the argument at the place `i`, from 0, of those behind the name, and gives what `arg` of `rt`
-    /// gives for it: its length in bytes, or an error. `NotPresent` also where `i` is the greatest `usize`, so that no
-    /// place comes after it.
     fn arg(&self, i: usize, buf: &mut [u8]) -> Result<usize, FillError> {
         match i.checked_add(1) {
             Some(next) => self.rt.arg(next, buf),
@@ -40,20 +36,16 @@ impl<R: Env> Env for AfterName<'_, R> {
         }
     }
 
-    /// Hands on to `rt`: writes into `buf` the value of the variable with this name, and gives its length in bytes, or
-    /// an error where there is no such variable, or `buf` is too short for it.
     fn var(&self, name: &str, buf: &mut [u8]) -> Result<usize, FillError> {
         self.rt.var(name, buf)
     }
 
-    /// Hands on to `rt`: writes into `buf` the variable at the place `i`, from 0, usually as `NAME=value`. Gives its
-    /// length in bytes, or an error where there is none at this place, or `buf` is too short for it.
     fn var_at(&self, i: usize, buf: &mut [u8]) -> Result<usize, FillError> {
         self.rt.var_at(i, buf)
     }
 }
 
-/// The words after the program's name. An error where one of them isn't UTF-8, or an allocation is refused.
+/// The words after the program's name. An error where one of them isn't UTF-8.
 fn words_of(rt: &HostRuntime) -> io::Result<Vec<String>> {
     let words = env::args(&(AfterName { rt }, rt.alloc()))?;
     Ok(words.collect(rt.alloc())?)
@@ -70,9 +62,8 @@ fn asks_to_explain<R: Env>(rt: &R, is_seen: bool) -> bool {
     }
 }
 
-/// Writes to standard error why there are no words, and gives the exit status. `error` is meant to be one of
-/// `words_of`. The status is 5, that of `Memory`, where an allocation was refused. Otherwise a word isn't UTF-8, and
-/// the status is 4. It isn't looked at whether the write succeeds.
+/// Writes to standard error why there are no words, and gives the exit status. `error` is one of `words_of`. It isn't
+/// looked at whether the write succeeds, here and below.
 fn no_words<E: Write>(error: &io::Error, err: &mut E) -> u8 {
     if error.kind() == ErrorKind::OutOfMemory {
         return tell_fault(&sf_evaluate::Fault::Other(Fault::Memory), err);
@@ -83,8 +74,7 @@ fn no_words<E: Write>(error: &io::Error, err: &mut E) -> u8 {
     4
 }
 
-/// Writes to standard error why there is no policy for `@auto`, and gives the exit status. `explains` tells whether the
-/// reason is wanted.
+/// Writes to standard error why there is no policy for `@auto`, and gives the exit status.
 fn no_policy<E: Write>(refusal: &Refusal, explains: bool, err: &mut E) -> u8 {
     match refusal {
         Refusal::Memory => tell_fault(&sf_evaluate::Fault::Other(Fault::Memory), err),

@@ -54,8 +54,7 @@ impl<'a, R: Clock> Progress<'a, R> {
 }
 
 impl Progress<'_, HostRuntime> {
-    /// Writes one line to standard error: this number of steps, the budget, and this number of seconds. It isn't looked
-    /// at whether the write succeeds.
+    /// Writes one line to standard error. It isn't looked at whether the write succeeds.
     fn tell(&self, steps: u64, seconds: u64) {
         let budget = self.budget.load(Ordering::Relaxed);
         let line: InlineText<LINE> = InlineText::of(format_args!(
@@ -88,7 +87,6 @@ impl Gate for Progress<'_, HostRuntime> {
 }
 
 impl Meter for Progress<'_, HostRuntime> {
-    /// Keeps the budget, which each line tells.
     fn begin(&self, budget: u32) {
         self.budget.store(u64::from(budget), Ordering::Relaxed);
     }
