@@ -112,8 +112,8 @@ module _ (holds : Text → Option Text) (bytes : Text) (program : List Insn) (kn
       one_file holds (codes "p.bpf") bytes known did.paths held.files paths_are held.read in
       let stack_is : stack ≡ program ∷ [] = one_stack (bytes ∷ []) stack (program ∷ [])
       (subst (λ (fs : List Text). SpellPrograms fs stack) files_are held.spelled.spelled) spelled.spelled in
-      let plain : IsCheckText false stack written = plain_text did.with_instructions did.json version
-      documents stack written (did.listed.1 read.instructions) (did.in_json.1 read.json) output in
+      let plain : IsCheckText false stack written =
+      plain_text _ _ version documents stack written read.instructions read.json output in
       let text_is : written ≡ text = one_text false (program ∷ []) written text
       (subst (λ (s : List (List Insn)). IsCheckText false s written) stack_is plain) told in
       (did.status_is, appended ∙ ap (λ (t : Text). old ++ t) text_is)

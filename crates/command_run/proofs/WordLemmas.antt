@@ -2,11 +2,12 @@
 use Rattle.std.proofs.Common.{◌≡◌, ◌∙◌, ◌⊎◌, Bool, List, [], ◌∷◌, refl, subst, sym, codes, inl, inr, true, false}
 use Rattle.std.specs.Prelude.{Option, Some, None}
 use Rattle.std.specs.Str.{bytes_eq}
-use Rattle.clap.specs.Words.{Kinds, IsAmong, Row, Text, first_of, one_of}
+use Rattle.clap.specs.Words.{Kinds, IsAmong, Row, Text, first_of}
 use Rattle.clap.specs.declared.error.kind.ErrorKind.{ErrorKind}
 use Rattle.clap.proofs.OnLiterals.{clap_on_literals}
 use Rattle.sf_command_line.specs.CommandLine.{command_line, errors_at, subcommand_at}
 use Rattle.sf_command_line.specs.Options.{paths_of}
+use Rattle.sf_evaluate.specs.Wanted.{is_switched_on}
 use Rattle.command_run.specs.Lines.{audit_words, check_words}
 
 -- where words fit, they give no error
@@ -59,8 +60,8 @@ Of P (Some found) = P found
 pub record IsCheck (found : Text × List Row) : Type 0 where
   pub name : found.0 ≡ codes "check"
   pub paths : paths_of (codes "filters") found.1 ≡ codes "p.bpf" ∷ []
-  pub instructions : one_of (codes "instructions") found.1 ≡ Some (codes "false")
-  pub json : one_of (codes "json") found.1 ≡ Some (codes "false")
+  pub instructions : is_switched_on (codes "instructions") found.1 ≡ false
+  pub json : is_switched_on (codes "json") found.1 ≡ false
 
 pub check_fits : errors_at check_words ≡ []
 unfolding clap_on_literals command_line errors_at
