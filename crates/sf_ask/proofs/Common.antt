@@ -11,12 +11,12 @@ pub use Rattle.std.proofs.lemmas.List.Sorted.{All-permutation, Contains-permutat
 pub use Rattle.std.proofs.lemmas.Nat.Bits.{bit_at-zero, bit_at_and, bit_at_set_other, bit_at_set_same}
 pub use Rattle.std.proofs.lemmas.Option.{get_or_from_slice_get, same_Some, slice_get_read, slice_get_within}
 pub use Rattle.std.proofs.lemmas.Result.{IfOk-at_ok, IfOk-weaker, err_from_is_err_and}
-pub use Rattle.std.specs.Int.{bit_at}
 pub use Rattle.std.specs.Int.Bits.{and_zero_r}
 pub use Rattle.std.specs.List.{list_all, range_with_len}
 pub use Rattle.std.specs.List.Sorted.{IsPartitionPoint}
 pub use Rattle.std.specs.Prelude.{All, Contains, IsPermutation, MatchOption, None, Option, if◌then◌else◌, slice_get, slice_index, slice_range, ◌==◌}
 pub use Rattle.std.specs.Vec.{vec_capacity}
+pub use Rattle.sf_ask.specs.Common.{Action, Allowed, CantTakeInBy, Clear, Doubt, Hit, Input, IsExecutionOne, IsInQuestion, IsInput, IsNumberOf, IsPlain, Known, Never, Node, PieceData, Probe, QuestionData, Reply, TakesInBy, Unsettled, Verdict, bit_at, has_action, is_whole, mask_at, range_at}
 pub use Rattle.sf_ask.specs.Judging.{CantTakeInQuestion, FindsInQuestion, HasNoHitAt, HasReply, HasVerdict, HasVerdictAt, IsTriedBy, TakeInMask, TakeInRange, TakeInWord}
 unfoldable pub use Rattle.sf_ask.specs.Judging.{TakeInBefore}
 pub use Rattle.sf_ask.specs.OneResult.{HaveOneVerdict, IsWholeFringe}
@@ -27,41 +27,24 @@ pub use Rattle.sf_ask.specs.Searches.{CantTakeInMask, CantTakeInWord, HasMaskBit
 pub use Rattle.sf_ask.specs.Sheets.{IsRightOn, IsRightWhereGiven, clear_if_wanted, first_verdicts, is_clear_or_skipped, is_skipped, verdict_at}
 pub use Rattle.sf_ask.specs.Trying.{IsLeastInput, IsNumberBefore}
 pub use Rattle.sf_ask.specs.Verdicts.{IsBreakAt, IsDecisive, IsLowInput, IsMemberAt, IsRightVerdict, TellsTriedAt}
-pub use Rattle.sf_ask.specs.declared.probe.Probe.{Probe}
-pub use Rattle.sf_ask.specs.declared.verdict.Reply.{Reply}
-pub use Rattle.sf_ask.specs.declared.verdict.Reply.TheVariants.{Allowed, Never, Unsettled}
-pub use Rattle.sf_ask.specs.declared.verdict.Verdict.{Verdict}
-pub use Rattle.sf_ask.specs.declared.verdict.Verdict.TheVariants.{Clear, Doubt, Hit}
 pub use Rattle.sf_ask.specs.laws.OneResultLaws.{one_verdict_at}
 pub use Rattle.sf_ask.specs.laws.QuestionBitsLaws.{all-bits}
 pub use Rattle.sf_book.specs.Books.{BookData, IsRightRegion, RegionData}
 pub use Rattle.sf_book.specs.Unfoldings.{ExplorationsHaveOneResult, IsFringe}
-pub use Rattle.sf_check.specs.Stacks.{IsPlain}
 pub use Rattle.sf_dom.specs.Facts.{AreConfined, AreNarrower, ConfinesWord, Covers, FactsView, HasIn, KeepsOnly, LiesIn, NoInput, known_at}
 unfoldable pub use Rattle.sf_dom.specs.Facts.{Agrees}
 pub use Rattle.sf_dom.specs.GoingBack.{WritingGives}
 pub use Rattle.sf_dom.specs.Known.{Admits}
-pub use Rattle.sf_dom.specs.Learning.{CantTakeInBy, TakesInBy}
 pub use Rattle.sf_dom.specs.Passes.{IsPass, PassGives}
 pub use Rattle.sf_dom.specs.Rules.{IsReduction, ReductionGives, between, forward_node, masked, met}
 pub use Rattle.sf_dom.specs.SoundRules.{HaveOneResult}
-pub use Rattle.sf_dom.specs.declared.known.Known.{Known}
 pub use Rattle.sf_dom.specs.laws.FactsLaws.{agreeing-word, low-left, narrower-admits, some-input, some-such, words-agree}
 pub use Rattle.sf_dom.specs.laws.LearningLaws.{confined-by, masked-by}
-pub use Rattle.sf_insn.specs.Inputs.{IsInput}
-pub use Rattle.sf_insn.specs.declared.input.Input.{Input}
-pub use Rattle.sf_piece.specs.OneExecution.{IsExecutionOne}
-pub use Rattle.sf_piece.specs.Pieces.{PieceData}
 unfoldable pub use Rattle.sf_piece.specs.Pieces.{is_member}
 pub use Rattle.sf_piece.specs.PlainPieces.{IsPlainPiece}
-pub use Rattle.sf_question.specs.Actions.{has_action}
-pub use Rattle.sf_question.specs.Breaking.{IsInQuestion, IsNumberOf}
-pub use Rattle.sf_question.specs.QuestionData.{QuestionData, is_whole, mask_at, range_at}
 pub use Rattle.sf_question.specs.declared.fault.Fault.{Fault}
-pub use Rattle.sf_run.specs.declared.action.Action.{Action}
 pub use Rattle.sf_run.specs.laws.AnswerLaws.{one}
 pub use Rattle.sf_sym.specs.Pool.{ArePlainNodes, IsPool, is_met, is_met_by, node_at}
 pub use Rattle.sf_sym.specs.declared.pool.Cond.{Cond}
-pub use Rattle.sf_sym.specs.declared.pool.Node.{Node}
 pub use mathlib.Core.Logic.{dite}
 pub use native.Mathlib.Decide.{ℕ_discrete}

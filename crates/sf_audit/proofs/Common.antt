@@ -7,11 +7,11 @@ pub use Rattle.std.proofs.lemmas.Option.{get_or_from_slice_get, same_Some, slice
 pub use Rattle.std.proofs.lemmas.Result.{IfErr-weaker, IfOk-weaker, on_ok_weaker}
 pub use Rattle.std.specs.Prelude.{codes, if◌then◌else◌}
 pub use Rattle.serde_json.specs.declared.value.Value.{Value}
+pub use Rattle.sf_audit.specs.Common.{BookData, Data, Fault, Insn, IsFirstRefusal, QuestionData, RegionData, Reply, SpellStack, bytes_eq, count, counts_document, counts_line, counts_of, fields, list_any, list_of, null, path_length, sizes_document, string, view}
 pub use Rattle.sf_ask.specs.Judging.{HasReply}
 pub use Rattle.sf_ask.specs.OneResult.{HaveOneReply, IsWholeFringe}
 pub use Rattle.sf_ask.specs.laws.OneResultLaws.{same_counts}
 pub use Rattle.sf_audit.specs.Audits.{IsAudit, IsAuditOf, IsAuditRefusal, IsFoundOn, IsMiscounted, IsWrongCount}
-pub use Rattle.sf_audit.specs.Common.{BookData, Data, Fault, Insn, IsFirstRefusal, QuestionData, RegionData, Reply, SpellStack, bytes_eq, count, counts_document, counts_line, counts_of, fields, list_any, list_of, null, path_length, sizes_document, string, view}
 pub use Rattle.sf_audit.specs.Documents.{TellingData, audit_document, control_documents, question_documents, region_document, region_documents, shown_expected, telling_data, totals_document}
 pub use Rattle.sf_audit.specs.Expectations.{ExpectedData, control_lines, deviation_lines, has_unexpected}
 pub use Rattle.sf_audit.specs.Outcomes.{Found}

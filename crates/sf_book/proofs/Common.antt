@@ -18,41 +18,28 @@ pub use Rattle.std.proofs.lemmas.Simd.{map-map}
 pub use Rattle.std.specs.Arc.{arc_value}
 pub use Rattle.std.specs.BTreeMap.{insert_entry, is_at}
 pub use Rattle.std.specs.Cmp.{IsEquivalence, eq_by_cmp_equiv, nat_cmp_total}
-pub use Rattle.std.specs.Cmp.Lexicographic.{slice_cmp}
 pub use Rattle.std.specs.List.{All, AllByRecursion, Contains, filter, find, remove, slice_get}
-pub use Rattle.std.specs.List.Sorted.{IsPermutation}
 unfoldable pub use Rattle.std.specs.List.Sorted.{IsStrictlySortedBy}
 pub use Rattle.std.specs.Map.{keys_of, lookup, remove_entry, set_value, values_of}
 pub use Rattle.std.specs.Option.{option_map, option_map_or, unwrap_or}
 pub use Rattle.std.specs.Ordering.{bool_cmp, eq_by_cmp, is_eq, match_ordering, nat_cmp}
 pub use Rattle.std.specs.Prelude.{Err, IfErr, Ok, Result}
-pub use Rattle.std.specs.declared.cmp.Ordering.{Ordering}
-pub use Rattle.std.specs.declared.cmp.Ordering.TheVariants.{Equal, Greater, Less}
+pub use Rattle.sf_book.specs.Common.{Answer, AreInNameOrder, Equal, Fault, Greater, Input, Insn, IsInput, IsLawfulStack, IsPermutation, IsPlain, LeaseState, Less, Memory, Ordering, slice_cmp, trace_of}
 pub use Rattle.sf_book.specs.Books.{BookData, HasRisingIds, IsKeptBook, IsLawfulBook, IsNoBeginning, IsOutstanding, IsRightRegion, IsSettled, OutstandingData, RegionData, count_beginnings, fresh, members_of}
 pub use Rattle.sf_book.specs.Changes.{CommitsAs, IsBefore, IsFirstFree, MayCommit, Refuses, outstanding_at, with_lease, with_lease_at, without}
 pub use Rattle.sf_book.specs.OutstandingMaps.{AreMatchingMaps, LeasesFirst, lease_state_of, name_cmp, name_total, outstanding_list, outstanding_of, piece_at}
 pub use Rattle.sf_book.specs.PlainBooks.{IsBook, IsPlainWhereStackIs}
 pub use Rattle.sf_book.specs.PrefixCounts.{bit, prefix_bit}
 pub use Rattle.sf_book.specs.Unfoldings.{Emptied, Fork, HaveOneOutcome, IsFringe, IsPieceOf, IsRegionOf, IsUnfolding, Outstanding, Region, Unfolding, emptied_in, forks_in, outstanding_in, regions_in, top_of}
-pub use Rattle.sf_book.specs.declared.fault.Fault.{Fault}
-pub use Rattle.sf_book.specs.declared.fault.Fault.TheVariants.{Memory}
-pub use Rattle.sf_book.specs.declared.outstanding.LeaseState.{LeaseState}
 pub use Rattle.sf_book.specs.laws.ChangesLaws.{all_at}
 pub use Rattle.sf_book.specs.laws.ExactLaws.{at_place, enough, left_unworked, one_for_each_trace, worked_off}
 pub use Rattle.sf_book.specs.laws.NameOrderLaws.{strictly_in_order}
 pub use Rattle.sf_book.specs.laws.PartitionLaws.{no_second, prefix-refl, some_there, sum_by-map}
 pub use Rattle.sf_book.specs.laws.PlainLaws.{plain_fresh, plain_has_members, plain_marks, plain_permuted, region_plain}
-pub use Rattle.sf_check.specs.Stacks.{IsLawfulStack, IsPlain}
-pub use Rattle.sf_check.specs.declared.insn.Insn.{Insn}
-pub use Rattle.sf_insn.specs.Inputs.{IsInput}
-pub use Rattle.sf_insn.specs.declared.input.Input.{Input}
 pub use Rattle.sf_piece.specs.Execution.{HasStep, IsFirst, IsInTree}
 pub use Rattle.sf_piece.specs.OneExecution.{IsExecutionOne}
 pub use Rattle.sf_piece.specs.Pieces.{Empty, IsRightAnswer, IsRightSplit, IsRightStep, IsRightWork, IsRoot, IsTrulyNamed, PieceData, Settled, Split, StepData, WorkData, is_member, is_prefix}
 pub use Rattle.sf_piece.specs.PlainPieces.{IsPlainPiece, IsPlainStep, IsPlainWork}
 pub use Rattle.sf_piece.specs.Steps.{name_after, step_data}
 pub use Rattle.sf_piece.specs.declared.work.Step.{Step}
-pub use Rattle.sf_run.specs.Feasible.{AreInNameOrder}
-pub use Rattle.sf_run.specs.Machine.{trace_of}
-pub use Rattle.sf_run.specs.declared.action.Answer.{Answer}
 pub use Rattle.sf_run.specs.laws.FeasibleLaws.{before_one_way, names_exact, names_total}

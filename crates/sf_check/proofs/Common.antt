@@ -11,6 +11,7 @@ pub use Rattle.std.proofs.lemmas.Option.{get_or_from_slice_get, gets, same_Some,
 pub use Rattle.std.specs.Int.{bit_at, w16}
 pub use Rattle.std.specs.List.Sorted.{IsNonDecreasing, IsPartitionPoint, IsPermutation}
 pub use Rattle.std.specs.Prelude.{All, Any, Contains, slice_index, sum_by}
+pub use Rattle.sf_check.specs.Common.{AreInsns, BadField, Fault, Insn, RawInsn, UnknownCode, Unreadable, spelling}
 pub use Rattle.sf_check.specs.Codes.{insn_of}
 pub use Rattle.sf_check.specs.EqualTests.{AreChains, AreSkipped, AreTestKeys, AsksFor, IsEqualTest, IsInChain, IsTestKey, LeadInside, LeadsOn, test_key}
 pub use Rattle.sf_check.specs.Insns.{IsInRange, loaded_by, stored_by, successors, targets}
@@ -19,14 +20,8 @@ pub use Rattle.sf_check.specs.Masks.{narrowed_masks}
 pub use Rattle.sf_check.specs.Programs.{AllBelow, EndsInReturn, IsAt, IsLawfulProgram, IsPath, IsSetAt, IsUnsetAt, Leads, Spells, SpellsProgram, Stores}
 pub use Rattle.sf_check.specs.Refusals.{AreFineBefore, IsFine, IsFirstFault}
 pub use Rattle.sf_check.specs.Stacks.{path_length}
-pub use Rattle.sf_check.specs.declared.fault.Fault.{Fault}
 pub use Rattle.sf_check.specs.declared.fault.Fault.TheVariants.{Code, Empty, Field, Jump, Last, Scratch, TooLong}
-pub use Rattle.sf_check.specs.declared.insn.Insn.{Insn}
-pub use Rattle.sf_check.specs.declared.read.Unreadable.{Unreadable}
-pub use Rattle.sf_check.specs.declared.read.Unreadable.TheVariants.{BadField, UnknownCode}
 pub use Rattle.sf_check.specs.laws.ContainsLaws.{any_cons, any_here, any_nil, any_there, contains_cons, contains_here, contains_nil, contains_there}
 pub use Rattle.sf_check.specs.laws.PathLengthLaws.{path_length-sum}
 pub use Rattle.sf_check.specs.laws.ProgramLaws.{successor_after, successors_inside}
-pub use Rattle.sf_insn.specs.Spelling.{AreInsns, spelling}
-pub use Rattle.sf_insn.specs.declared.raw.RawInsn.{RawInsn}
 pub use Rattle.sf_insn.specs.laws.WordLaws.{count_of_one_bit, one_bit_counted}

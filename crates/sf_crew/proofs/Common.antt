@@ -10,10 +10,8 @@ pub use Rattle.std.proofs.lemmas.List.Sums.{sum_by-append, sum_by-cons, sum_by_p
 pub use Rattle.std.proofs.lemmas.Nat.Bits.{bit_at-lt, bit_at-trailing_zeros, bit_at-zero, bit_at_clear_other, bit_at_ones, bit_at_set_other, bit_at_set_same}
 pub use Rattle.std.proofs.lemmas.Option.{get_or_from_slice_get, gets, same_Some, slice_get-get_or, slice_get-map, slice_get_cases, slice_get_past, slice_get_read, slice_get_within, some_pair_parts}
 pub use Rattle.std.proofs.lemmas.Result.{err_from_is_err_and}
-pub use Rattle.std.specs.Arc.{arc_value}
 pub use Rattle.std.specs.Int.{bit_at, bit_not, trailing_zeros}
 pub use Rattle.std.specs.Mem.Slots.{slots_items}
-pub use Rattle.std.specs.Option.{option_map}
 pub use Rattle.atomic_table.proofs.Lists.{at_set, set_again, set_else, set_here}
 pub use Rattle.atomic_table.specs.Table.{Allows, Joins, Me, Splits, State, keeps}
 pub use Rattle.crossbeam_deque.proofs.Phases.{at_lt}
@@ -22,14 +20,10 @@ pub use Rattle.crossbeam_deque.specs.Steals.{MatchSteal}
 pub use Rattle.crossbeam_deque.specs.Tasks.{Finds, FindsFew, Forks, Learns, Merges, Pushes, Takes}
 pub use Rattle.crossbeam_deque.specs.declared.steal.Steal.{Steal}
 pub use Rattle.crossbeam_deque.specs.declared.steal.Steal.TheVariants.{Retry, Success}
-pub use Rattle.sf_ask.specs.Judging.{HasVerdictAt}
+pub use Rattle.sf_crew.specs.Common.{Allowed, BoardKey, Empty, End, EnteredSheet, Event, Got, HandleView, HasVerdictAt, Input, Insn, IsFringe, IsPlain, Lease, Never, Note, PieceData, Put, QuestionData, Reply, Settled, Split, StepData, Tally, Thief, Unsettled, Verdict, View, WorkData, arc_value, bit_of, children_of, option_map}
 pub use Rattle.sf_ask.specs.OneResult.{HaveOneVerdict}
-pub use Rattle.sf_ask.specs.QuestionBits.{bit_of}
 pub use Rattle.sf_ask.specs.Sheets.{HasHit, IsRightOn, IsRightSheet, IsRightWhereGiven, SheetData, is_doubt, is_hit, is_skipped}
 pub use Rattle.sf_ask.specs.Verdicts.{IsRightVerdict, TellsTriedAt}
-pub use Rattle.sf_ask.specs.declared.verdict.Reply.{Reply}
-pub use Rattle.sf_ask.specs.declared.verdict.Reply.TheVariants.{Allowed, Never, Unsettled}
-pub use Rattle.sf_ask.specs.declared.verdict.Verdict.{Verdict}
 pub use Rattle.sf_ask.specs.declared.verdict.Verdict.TheVariants.{Clear, Doubt, Hit}
 pub use Rattle.sf_ask.specs.laws.MemberLaws.{in_some_region}
 pub use Rattle.sf_ask.specs.laws.OneResultLaws.{one_verdict_at}
@@ -39,15 +33,11 @@ pub use Rattle.sf_book.specs.Books.{BookData, IsLawfulBook, IsOutstanding, IsSet
 pub use Rattle.sf_book.specs.Changes.{CommitsAs, Leases, MayCommit, Refuses, outstanding_at, with_lease, with_lease_at, without}
 pub use Rattle.sf_book.specs.Exact.{HasMembers}
 pub use Rattle.sf_book.specs.PlainBooks.{IsPlainWhereStackIs}
-pub use Rattle.sf_book.specs.Unfoldings.{IsFringe}
-pub use Rattle.sf_book.specs.declared.book.Lease.{Lease}
 pub use Rattle.sf_book.specs.declared.fault.Fault.{Fault}
 pub use Rattle.sf_book.specs.declared.fault.Fault.TheVariants.{Foreign, Memory, Spent, Stale}
 pub use Rattle.sf_book.specs.laws.ChangesLaws.{all_at, leased_at}
 pub use Rattle.sf_book.specs.laws.ExactLaws.{enough, worked_off}
 pub use Rattle.sf_book.specs.laws.PlainLaws.{plain_has_members}
-pub use Rattle.sf_check.specs.Stacks.{IsPlain}
-pub use Rattle.sf_check.specs.declared.insn.Insn.{Insn}
 pub use Rattle.sf_crew.specs.BenchRule.{BenchKept, GetsAll, PutsAll, Sits, WereLeft, new_thief_view, owner_with_thief, spent_view}
 pub use Rattle.sf_crew.specs.Benches.{AreThieves, IsOnBench, owner_view, thief_view}
 pub use Rattle.sf_crew.specs.BoardRule.{BoardKept, Kept, Sound, doubts_in, least_in}
@@ -62,21 +52,8 @@ pub use Rattle.sf_crew.specs.Sweeps.{HasDoubt, IsFullTally, IsReplyTo, IsRightRe
 pub use Rattle.sf_crew.specs.Tallies.{IsBelowLeast, IsCleared, RightTally}
 pub use Rattle.sf_crew.specs.Views.{Covered, IsInDoubt, Noted, RightPlace, count_of_regions, doubt_at, entered_jobs, entered_sheet, has, has_doubt, jobs, note, once_below, owed_jobs, questions_of, regions_of, top}
 pub use Rattle.sf_crew.specs.Workers.{GetsOne, PutsChildren, PutsOrNot, thief_views}
-pub use Rattle.sf_crew.specs.declared.benches.handles.Thief.{Thief}
-pub use Rattle.sf_crew.specs.declared.benches.history.End.{End}
-pub use Rattle.sf_crew.specs.declared.benches.history.Event.{Event}
-pub use Rattle.sf_crew.specs.declared.benches.history.Event.TheVariants.{Got, Put}
-pub use Rattle.sf_crew.specs.declared.benches.history.HandleView.{HandleView}
 pub use Rattle.sf_crew.specs.declared.board.Seat.{Seat}
-pub use Rattle.sf_crew.specs.declared.board.Tally.{Tally}
-pub use Rattle.sf_crew.specs.declared.board.view.BoardKey.{BoardKey}
-pub use Rattle.sf_crew.specs.declared.board.view.EnteredSheet.{EnteredSheet}
-pub use Rattle.sf_crew.specs.declared.board.view.Note.{Note}
-pub use Rattle.sf_crew.specs.declared.board.view.View.{View}
-pub use Rattle.sf_insn.specs.declared.input.Input.{Input}
 pub use Rattle.sf_piece.specs.OneExecution.{IsExecutionOne}
-pub use Rattle.sf_piece.specs.Pieces.{Empty, PieceData, Settled, Split, StepData, WorkData, children_of}
-pub use Rattle.sf_question.specs.QuestionData.{QuestionData}
 pub use Rattle.sf_run.specs.declared.counts.Counts.{Counts}
 pub use lib.ListN.{get_elem?, length-replicate, replicate}
 pub use mathlib.Core.Logic.{dite}

@@ -12,8 +12,6 @@ pub use Rattle.std.proofs.lemmas.List.Sorted.{Contains-permutation, IsNonDecreas
 pub use Rattle.std.proofs.lemmas.Nat.{and_comm, and_le_l, and_le_r, and_mod, and_or_self, and_shr, le-div, le_or_l, le_or_r, leading_length, mul-le, or_comm, or_disjoint, or_lt, or_mod, or_shr, pow_pos, shr-shr, shr_split, xor_comm, xor_lt, xor_shr}
 pub use Rattle.std.proofs.lemmas.Nat.Bits.{and_pow, bit_at-lt, bit_at-pow_other, bit_at-pow_same, bit_at-suc, bit_at-trailing_zeros, bit_at-zero, bit_at_above, bit_at_and, bit_at_cat_high, bit_at_cat_low, bit_at_lowest, bit_at_mask_below, bit_at_mask_inside, bit_at_not, bit_at_ones_above, bit_at_or, bit_at_xor, ones_shl, ones_shr, same_from_bits, same_from_bits_below}
 pub use Rattle.std.proofs.lemmas.Option.{IfSome_then}
-pub use Rattle.std.specs.Arc.{arc_slice_items, arc_value}
-pub use Rattle.std.specs.Int.{bit_at, trailing_zeros, w32}
 pub use Rattle.std.specs.Int.Bits.{and_lt, or_add_and}
 pub use Rattle.std.specs.Int.Count.{count_leading_zeros}
 pub use Rattle.std.specs.List.{insert}
@@ -21,6 +19,7 @@ pub use Rattle.std.specs.List.Sorted.{IsBinarySearchResult, IsSorted}
 pub use Rattle.std.specs.Ordering.{nat_cmp}
 pub use Rattle.std.specs.Prelude.{All, Contains, Err, IfOk, IfSome, MatchBool, MatchOption, None, Ok, Option, Result, Some, bit_and, bit_or, bit_xor, if◌then◌else◌, replicate, slice_index, ◌&&◌, ◌==◌}
 pub use Rattle.std.specs.Result.{result_ok}
+pub use Rattle.sf_dom.specs.Common.{Add, And, AnyBit, Bin, BinOp, Cond, Const, Div, Equal, Input, IsInput, IsOneBit, Known, Lsh, Mul, Neg, Node, NodeId, Number, Or, Pair, Rsh, Slot, Sub, Test, Variable, Word, Xor, apply, arc_slice_items, arc_value, bit_at, negation_of, passes, trailing_zeros, w32}
 pub use Rattle.sf_dom.specs.Ascending.{AreAscending, set_of, shared_items}
 pub use Rattle.sf_dom.specs.Backward.{IsPropagatedBack}
 pub use Rattle.sf_dom.specs.Facts.{AgreesWith, AreFacts, ConfinesWord, Covers, DecidesTest, FactsView, HasIn, HasMasked, IsPlainCondition, IsPlainTest, IsWordOrConst, KeepsInputs, KeepsOnly, LiesIn, NoInput, NoneAgrees, TakesIn, excluded_of, known_at, numbers_at}
@@ -37,25 +36,9 @@ unfoldable pub use Rattle.sf_dom.specs.Rules.{assumed, forward_known, forward_ne
 pub use Rattle.sf_dom.specs.SoundRules.{AreCarried, AreDecidedOperands, IsForcedCondition, IsForcedTest, KeepsDecided, condition, grown, learnt, started}
 pub use Rattle.sf_dom.specs.Telling.{IsForcedBy, IsOpen}
 pub use Rattle.sf_dom.specs.Variables.{set_known, variable_at}
-pub use Rattle.sf_dom.specs.declared.guards.Pair.{Pair}
-pub use Rattle.sf_dom.specs.declared.known.Known.{Known}
-pub use Rattle.sf_dom.specs.declared.slots.Slot.{Slot}
-pub use Rattle.sf_dom.specs.declared.slots.Slot.TheVariants.{Number}
-pub use Rattle.sf_dom.specs.declared.variables.Variable.{Variable}
 pub use Rattle.sf_dom.specs.laws.FactsLaws.{agreeing-word, bit_at-complement, closed-consistent, constant-admits, constant-known, covers-facts, decided-admits, narrower-admits, none-has, sampled, some-input, some-such, value-word, words-agree}
 pub use Rattle.sf_dom.specs.laws.ThenLaws.{then-one, then-same}
-pub use Rattle.sf_insn.specs.Inputs.{IsInput}
-pub use Rattle.sf_insn.specs.Words.{IsOneBit, apply, negation_of, passes}
-pub use Rattle.sf_insn.specs.declared.input.Input.{Input}
-pub use Rattle.sf_insn.specs.declared.ops.BinOp.{BinOp}
-pub use Rattle.sf_insn.specs.declared.ops.BinOp.TheVariants.{Add, And, Div, Lsh, Mul, Or, Rsh, Sub, Xor}
-pub use Rattle.sf_insn.specs.declared.ops.Test.{Test}
-pub use Rattle.sf_insn.specs.declared.ops.Test.TheVariants.{AnyBit, Equal}
 pub use Rattle.sf_sym.specs.Operands.{IsSwappable, constant_operand_of, one_constant}
 pub use Rattle.sf_sym.specs.Pool.{ArePlainNodes, Extends, IsCondBelow, IsPool, OperandsBelow, constant_number, node_at, node_value, value_of, values_of}
-pub use Rattle.sf_sym.specs.declared.pool.Cond.{Cond}
-pub use Rattle.sf_sym.specs.declared.pool.Node.{Node}
-pub use Rattle.sf_sym.specs.declared.pool.Node.TheVariants.{Bin, Const, Neg, Word}
-pub use Rattle.sf_sym.specs.declared.pool.NodeId.{NodeId}
 pub use Rattle.sf_sym.specs.laws.SizeLaws.{value-small}
 pub use Rattle.sf_sym.specs.laws.ValueLaws.{IsPool-push, OperandsBelow-at, constant_number-is, met-passes, passes-met, value-constant, value-node, value-older, word-place}

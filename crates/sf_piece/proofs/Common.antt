@@ -12,43 +12,26 @@ pub use Rattle.std.proofs.lemmas.Nat.Bits.{and_pow}
 pub use Rattle.std.proofs.lemmas.Option.{get_or_from_slice_get, same_Some, slice_get-get_or, slice_get-map, slice_get_within}
 pub use Rattle.std.proofs.lemmas.Result.{IfOk-weaker}
 pub use Rattle.std.specs.Cmp.Lexicographic.{slice_cmp}
-pub use Rattle.std.specs.List.{AllByRecursion, flat_map, list_all}
 pub use Rattle.std.specs.Ordering.{bool_cmp, nat_cmp, ordering_then}
 pub use Rattle.std.specs.Prelude.{All, Contains, IfSome, IsSome, MatchOption, Option, bit_and, if◌then◌else◌, option_map, slice_set, ◌==◌}
 pub use Rattle.std.specs.declared.cmp.Ordering.{Ordering}
 pub use Rattle.std.specs.declared.cmp.Ordering.TheVariants.{Less}
-pub use Rattle.std.specs.declared.cmp.Reverse.{Reverse}
+pub use Rattle.sf_piece.specs.Common.{A, AllByRecursion, Alu, Answer, AnyBit, Bin, BinOp, Branch, CantLearn, Cond, Const, Constant, Div, Equal, GrowsBy, Input, Insn, IsAnswer, IsForcedBy, IsInput, IsPropagatedBack, Known, LearnsBy, Load, LoadConstant, LoadLength, LoadScratch, LoadWord, LoadXConstant, LoadXLength, LoadXScratch, Meets, Neg, Negate, Node, NodeId, Operand, Register, ReturnA, ReturnConstant, Reverse, StartsBy, StoreA, StoreX, SymbolicMachine, Test, Word, X, apply, flat_map, list_all, passes}
 pub use Rattle.sf_check.specs.EqualTests.{AreSkipped}
 pub use Rattle.sf_check.specs.Insns.{stored_by, successors}
 pub use Rattle.sf_check.specs.Programs.{IsAt, IsLawfulProgram, Stores}
 pub use Rattle.sf_check.specs.Stacks.{IsLawfulStack, IsPlain, IsPlainInsn}
-pub use Rattle.sf_check.specs.declared.insn.Insn.{Insn}
-pub use Rattle.sf_check.specs.declared.insn.Insn.TheVariants.{Alu, Branch, LoadConstant, LoadLength, LoadScratch, LoadWord, LoadXConstant, LoadXLength, LoadXScratch, Negate, ReturnA, ReturnConstant, StoreA, StoreX}
-pub use Rattle.sf_check.specs.declared.insn.Operand.{Operand}
-pub use Rattle.sf_check.specs.declared.insn.Operand.TheVariants.{Constant, X}
 pub use Rattle.sf_check.specs.laws.ContainsLaws.{any_cons, contains_here, contains_there}
 pub use Rattle.sf_check.specs.laws.ProgramLaws.{below_in, successors_inside}
-pub use Rattle.sf_dom.specs.Backward.{IsPropagatedBack}
 pub use Rattle.sf_dom.specs.Facts.{Covers, FactsView, IsPlainCondition, IsPlainTest, IsWordOrConst, KeepsOnly, TakesIn, known_at}
 unfoldable pub use Rattle.sf_dom.specs.Facts.{Agrees}
 pub use Rattle.sf_dom.specs.Known.{Admits, IsConsistent, IsDecided}
-pub use Rattle.sf_dom.specs.Learning.{CantLearn, GrowsBy, LearnsBy, StartsBy}
-pub use Rattle.sf_dom.specs.Propagation.{Meets}
 pub use Rattle.sf_dom.specs.Rules.{IsClosed, IsClosedAt, Then, number_known}
 unfoldable pub use Rattle.sf_dom.specs.Rules.{assumed}
 pub use Rattle.sf_dom.specs.SoundRules.{AreCarried, ForcedIsLearnt, HaveOneResult, IsForcedCondition, IsForcedTest, IsLearningSound, learnt, started}
-pub use Rattle.sf_dom.specs.Telling.{IsForcedBy}
-pub use Rattle.sf_dom.specs.declared.known.Known.{Known}
 pub use Rattle.sf_dom.specs.laws.FactsLaws.{closed-consistent, constant-known, some-input}
 pub use Rattle.sf_dom.specs.laws.LearningLaws.{told-by}
 pub use Rattle.sf_dom.specs.laws.ThenLaws.{then-one}
-pub use Rattle.sf_insn.specs.Inputs.{IsInput}
-pub use Rattle.sf_insn.specs.Words.{apply, passes}
-pub use Rattle.sf_insn.specs.declared.input.Input.{Input}
-pub use Rattle.sf_insn.specs.declared.ops.BinOp.{BinOp}
-pub use Rattle.sf_insn.specs.declared.ops.BinOp.TheVariants.{Div}
-pub use Rattle.sf_insn.specs.declared.ops.Test.{Test}
-pub use Rattle.sf_insn.specs.declared.ops.Test.TheVariants.{AnyBit, Equal}
 pub use Rattle.sf_piece.specs.Execution.{AfterTruthValue, CanLearn, Computes, EndsAs, Gets, GetsOperand, GoesOn, GoesOnFor, HasQuery, HasStep, IsAtHand, IsBelow, IsEmptied, IsFirst, IsGiven, IsInTree, IsNamedOn, IsNodeAt, IsPutIn, IsSide, LeavesNeither, LeavesOnly, Loads, MakesOf, MovesTo, SplitsInto, code_at, piece_with, query, with_machine, with_sense}
 pub use Rattle.sf_piece.specs.Machines.{after_return, first_machine, on, updated}
 pub use Rattle.sf_piece.specs.Names.{spelled}
@@ -62,25 +45,15 @@ pub use Rattle.sf_piece.specs.declared.deciding.Decision.{Decision}
 pub use Rattle.sf_piece.specs.declared.deciding.Decision.TheVariants.{Implied, Neither}
 pub use Rattle.sf_piece.specs.declared.deciding.SmallStep.{SmallStep}
 pub use Rattle.sf_piece.specs.declared.deciding.SmallStep.TheVariants.{Empty, On, Settled}
-pub use Rattle.sf_piece.specs.declared.machine.Register.{Register}
-pub use Rattle.sf_piece.specs.declared.machine.Register.TheVariants.{A}
-pub use Rattle.sf_piece.specs.declared.machine.SymbolicMachine.{SymbolicMachine}
-pub use Rattle.sf_piece.specs.declared.machine.Update.TheVariants.{Load}
-pub use Rattle.sf_run.specs.Answers.{IsAnswer}
 pub use Rattle.sf_run.specs.Machine.{Outcome, Progress, State, bits, goes, insn_progress, met_by, operand_of, outcome_from, return_of, returns, start, step, stuck, test_progress, trace_of, with_a}
 unfoldable pub use Rattle.sf_run.specs.Machine.{outcome_of, run_for}
 pub use Rattle.sf_run.specs.Reachable.{IsReachable, put}
 pub use Rattle.sf_run.specs.Routes.{AreWays, IsRoute, IsWay, IsWholeRoute, MayMeet, goes_on, returns_at}
-pub use Rattle.sf_run.specs.declared.action.Answer.{Answer}
 pub use Rattle.sf_run.specs.laws.AnswerLaws.{answer_more, answer_none}
 pub use Rattle.sf_run.specs.laws.CompletionLaws.{some_way}
 pub use Rattle.sf_run.specs.laws.RouteLaws.{route_is_short}
 pub use Rattle.sf_run.specs.laws.RunLaws.{ends_from, lawful_ends, load_is_set, option_map_some, run_ends, run_more, run_same, safe_next, safe_start, step_is}
 pub use Rattle.sf_run.specs.laws.TraceLaws.{may_go, newest_first}
 pub use Rattle.sf_sym.specs.Pool.{ArePlainNodes, Extends, IsCondBelow, IsPool, OperandsBelow, folded_node, is_met, node_at, node_value, same, value_of, values_of}
-pub use Rattle.sf_sym.specs.declared.pool.Cond.{Cond}
-pub use Rattle.sf_sym.specs.declared.pool.Node.{Node}
-pub use Rattle.sf_sym.specs.declared.pool.Node.TheVariants.{Bin, Const, Neg, Word}
-pub use Rattle.sf_sym.specs.declared.pool.NodeId.{NodeId}
 pub use Rattle.sf_sym.specs.laws.SizeLaws.{value-small}
 pub use Rattle.sf_sym.specs.laws.ValueLaws.{value-constant, value-older}

@@ -14,36 +14,25 @@ pub use Rattle.std.proofs.lemmas.Nat.{and_block, and_le_r, and_mask}
 pub use Rattle.std.proofs.lemmas.Option.{same_Some, slice_get-map}
 pub use Rattle.std.proofs.lemmas.Result.{err_from_is_err_and}
 pub use Rattle.std.specs.Bool.{MatchBool}
-pub use Rattle.std.specs.Char.{to_ascii_lowercase}
-pub use Rattle.std.specs.List.{flat_map, list_all, list_any, zip}
 pub use Rattle.std.specs.Map.{keys_of}
 pub use Rattle.std.specs.Prelude.{All, IfErr, IfOk, IfSome, IsSomeAnd, bit_and, filter, find, if◌then◌else◌, nat_le, nat_lt, not, option_and_then, replicate, slice_index, ◌&&◌, ◌==◌, ◌||◌}
-pub use Rattle.std.specs.Str.{IsUtf8, bytes_eq}
 pub use Rattle.indexmap.specs.IndexSet.{insert_key}
 pub use Rattle.json.specs.Find.{get, get_member, later_or}
 pub use Rattle.json.specs.Json.{Items, Json, Members, document, item, member, no_members}
-pub use Rattle.json.specs.Strict.{HasUniqueKeys}
 pub use Rattle.json.specs.Tree.{HasNumbers, MembersHaveNumbers, depth, members_depth}
 pub use Rattle.json.specs.Value.{items_view, value_view}
-pub use Rattle.serde_json.specs.Data.{Data}
-pub use Rattle.serde_json.specs.Read.{read}
 pub use Rattle.serde_json.specs.View.{members_view, view}
 pub use Rattle.serde_json.specs.declared.value.Value.{Value}
+pub use Rattle.sf_profile.specs.Common.{Allow, Answer, Argument, Branch, Call, CallSet, Comparing, Comparison, Data, Equal, Errno, Fault, Greater, GreaterOrEqual, HasUniqueKeys, Input, Insn, Instruction, IsInput, IsUtf8, Less, LessOrEqual, Load, Mask, MaskedEqual, Mildest, NotEqual, RawInsn, Reading, Response, Return, Settings, Skip, Strictest, Test, bytes_eq, flat_map, is_call_name, list_all, list_any, read, to_ascii_lowercase, zip}
 pub use Rattle.sf_check.specs.Codes.{word_at}
 pub use Rattle.sf_check.specs.Insns.{IsInRange, IsReturn, loaded_by, targets}
 pub use Rattle.sf_check.specs.Programs.{AllBelow, IsAt, IsLawfulProgram, Spells}
 pub use Rattle.sf_check.specs.Stacks.{IsPlain, IsPlainInsn}
-pub use Rattle.sf_check.specs.declared.insn.Insn.{Insn}
 pub use Rattle.sf_check.specs.declared.insn.Operand.TheVariants.{Constant}
 pub use Rattle.sf_check.specs.declared.read.Unreadable.{Unreadable}
-pub use Rattle.sf_insn.specs.Inputs.{IsInput}
 pub use Rattle.sf_insn.specs.Spelling.{AreInsns, IsInsn, spelling}
 pub use Rattle.sf_insn.specs.Words.{passes}
-pub use Rattle.sf_insn.specs.declared.input.Input.{Input}
 pub use Rattle.sf_insn.specs.declared.ops.BinOp.TheVariants.{And}
-pub use Rattle.sf_insn.specs.declared.ops.Test.{Test}
-pub use Rattle.sf_insn.specs.declared.raw.RawInsn.{RawInsn}
-pub use Rattle.sf_names.specs.Names.{is_call_name}
 pub use Rattle.sf_profile.specs.Cautions.{AnswerZero}
 pub use Rattle.sf_profile.specs.Configs.{folded, is_clear, is_taken_for}
 pub use Rattle.sf_profile.specs.Data.{PlanData, ProfileData, ProfileRuleData, RuleData, SetRulesData}
@@ -63,22 +52,7 @@ unfoldable pub use Rattle.sf_profile.specs.Reads.{read_of}
 pub use Rattle.sf_profile.specs.Repeats.{AreReadBack, IsFaultOfRepeat, IsReadBack, items_where, last_at, last_rules, profile_below, unless_null}
 pub use Rattle.sf_profile.specs.Settings.{has_calls, is_unknown}
 pub use Rattle.sf_profile.specs.Trees.{all_keys, at, is_object_of, is_object_with, items_in, listed, text_in}
-pub use Rattle.sf_profile.specs.declared.fault.Fault.{Fault}
-pub use Rattle.sf_profile.specs.declared.instruction.Instruction.{Instruction}
-pub use Rattle.sf_profile.specs.declared.instruction.Instruction.TheVariants.{Branch, Load, Mask, Return, Skip}
-pub use Rattle.sf_profile.specs.declared.rules.Argument.{Argument}
-pub use Rattle.sf_profile.specs.declared.rules.Call.{Call}
-pub use Rattle.sf_profile.specs.declared.rules.CallSet.{CallSet}
-pub use Rattle.sf_profile.specs.declared.rules.Comparing.{Comparing}
-pub use Rattle.sf_profile.specs.declared.rules.Comparing.TheVariants.{Equal, Greater, GreaterOrEqual, Less, LessOrEqual, MaskedEqual, NotEqual}
-pub use Rattle.sf_profile.specs.declared.rules.Comparison.{Comparison}
-pub use Rattle.sf_profile.specs.declared.rules.Reading.{Reading}
-pub use Rattle.sf_profile.specs.declared.rules.Reading.TheVariants.{Mildest, Strictest}
-pub use Rattle.sf_profile.specs.declared.rules.Response.{Response}
-pub use Rattle.sf_profile.specs.declared.rules.Response.TheVariants.{Allow, Errno}
-pub use Rattle.sf_profile.specs.declared.settings.Settings.{Settings}
 pub use Rattle.sf_run.specs.Answers.{Answers, IsAnswer, action_number, folded_answer, rank}
 pub use Rattle.sf_run.specs.Machine.{State, goes, insn_progress, return_of, run_for}
-pub use Rattle.sf_run.specs.declared.action.Answer.{Answer}
 pub use Rattle.sf_run.specs.laws.AnswerLaws.{answer_more, answer_none}
 pub use Rattle.sf_run.specs.laws.RunLaws.{option_map_some, run_ends, run_more, value_is}

@@ -6,15 +6,8 @@ pub use Rattle.std.proofs.lemmas.List.Concat.{flat_map-append}
 pub use Rattle.std.proofs.lemmas.List.Elements.{All-append, All-cons, All-nil}
 pub use Rattle.std.proofs.lemmas.Nat.Bits.{shr_and_one}
 pub use Rattle.std.proofs.lemmas.Option.{same_Some, slice_get-get_or}
-pub use Rattle.std.specs.List.{flat_map}
 pub use Rattle.std.specs.Prelude.{All, slice_index, ◌==◌}
-pub use Rattle.sf_check.specs.Insns.{IsInRange, loaded_by}
-pub use Rattle.sf_check.specs.Programs.{IsAt, IsLawfulProgram}
-pub use Rattle.sf_check.specs.declared.insn.Insn.{Insn}
-pub use Rattle.sf_check.specs.declared.insn.Insn.TheVariants.{Alu, Branch, LoadConstant, LoadLength, LoadScratch, LoadWord, LoadXScratch, Negate, ReturnA, ReturnConstant, Txa}
-pub use Rattle.sf_check.specs.declared.insn.Operand.TheVariants.{Constant, X}
-pub use Rattle.sf_insn.specs.declared.input.Input.{Input}
-pub use Rattle.sf_insn.specs.declared.ops.BinOp.TheVariants.{Div}
+pub use Rattle.sf_run.specs.Common.{Alu, Answer, Branch, Constant, Div, Goes, Input, Insn, IsAt, IsInRange, IsLawfulProgram, LoadConstant, LoadLength, LoadScratch, LoadWord, LoadXScratch, Machine, Meeting, Negate, ReturnA, ReturnConstant, Returns, Txa, X, flat_map, loaded_by}
 pub use Rattle.sf_run.specs.Answers.{IsAnswer}
 pub use Rattle.sf_run.specs.Code.{Took, met_at, state_of}
 pub use Rattle.sf_run.specs.Machine.{Progress, State, bits, goes, insn_progress, met_by, return_of, returns, start, step, stuck, with_a, with_x}
@@ -22,10 +15,6 @@ unfoldable pub use Rattle.sf_run.specs.Machine.{outcome_of, run_for}
 pub use Rattle.sf_run.specs.Reachable.{IsReachable}
 pub use Rattle.sf_run.specs.Walks.{CourseData, HoldsItsWord, after, course, meeting_at, meeting_in, onward, truths, word_after, word_behind}
 unfoldable pub use Rattle.sf_run.specs.Walks.{walk_for, walk_of}
-pub use Rattle.sf_run.specs.declared.action.Answer.{Answer}
-pub use Rattle.sf_run.specs.declared.machine.Machine.{Machine}
-pub use Rattle.sf_run.specs.declared.machine.Next.TheVariants.{Goes, Returns}
-pub use Rattle.sf_run.specs.declared.walking.Meeting.{Meeting}
 pub use Rattle.sf_run.specs.laws.AnswerLaws.{answer_more, one}
 pub use Rattle.sf_run.specs.laws.FeasibleLaws.{feasible_are, one_list}
 pub use Rattle.sf_run.specs.laws.InputLaws.{inputs_are}

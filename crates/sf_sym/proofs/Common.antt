@@ -6,16 +6,9 @@ pub use Rattle.std.proofs.lemmas.Grind.{common_steps}
 pub use Rattle.std.proofs.lemmas.List.{get_or-map, get_or-replicate, get_or-set_other, get_or-set_same, get_or_append_left, get_or_push, length-map, length-replicate, length-set, length_push, map-append}
 pub use Rattle.std.proofs.lemmas.Nat.{and_comm, or_comm, xor_comm}
 pub use Rattle.std.specs.Arc.{arc_value}
-pub use Rattle.sf_insn.specs.Words.{apply, negation_of}
-pub use Rattle.sf_insn.specs.declared.input.Input.{Input}
-pub use Rattle.sf_insn.specs.declared.ops.BinOp.{BinOp}
-pub use Rattle.sf_insn.specs.declared.ops.BinOp.TheVariants.{And, Or, Xor}
+pub use Rattle.sf_sym.specs.Common.{And, Bin, BinOp, Const, Input, Interned, Neg, Node, NodeId, Or, Word, Xor, apply, negation_of}
 pub use Rattle.sf_sym.specs.Index.{IsIndexed, IsLastWithHash, hash_of, link_at, nodes_of}
 pub use Rattle.sf_sym.specs.Operands.{IsSwappable}
 pub use Rattle.sf_sym.specs.Pool.{AreOrdered, HasNoTwins, IsPool, OperandsBelow, combined_node, constant_number, folded_node, negated_node, node_at, node_value, value_of, values_of}
-pub use Rattle.sf_sym.specs.declared.index.Interned.{Interned}
-pub use Rattle.sf_sym.specs.declared.pool.Node.{Node}
-pub use Rattle.sf_sym.specs.declared.pool.Node.TheVariants.{Bin, Const, Neg, Word}
-pub use Rattle.sf_sym.specs.declared.pool.NodeId.{NodeId}
 pub use Rattle.sf_sym.specs.laws.SizeLaws.{apply-small}
 pub use Rattle.sf_sym.specs.laws.ValueLaws.{AreOrdered-push, ArePlainNodes-push, IsPool-push, OperandsBelow-at, constant_number-is, length-values_of, twins-push, value-constant, value-last, value-node, value-older, value-pushed, value-take, values_of-more}

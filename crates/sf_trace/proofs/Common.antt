@@ -4,16 +4,9 @@ pub use Rattle.std.proofs.lemmas.Grind.{common_steps}
 pub use Rattle.std.proofs.lemmas.List.{drop_all, drop_more, length_push, map-append}
 pub use Rattle.std.proofs.lemmas.Option.{get_or_from_slice_get, same_Some, slice_get-get_or}
 pub use Rattle.std.proofs.lemmas.Result.{on_ok_weaker}
-pub use Rattle.std.specs.Fmt.{decimal}
-pub use Rattle.std.specs.List.{flat_map}
 pub use Rattle.std.specs.Prelude.{not, slice_index_or, ◌&&◌, ◌==◌, ◌||◌, ◌↔◌}
-pub use Rattle.serde_json.specs.Data.{Data}
 pub use Rattle.serde_json.specs.View.{view}
-pub use Rattle.sf_check.specs.declared.insn.Insn.{Insn}
-pub use Rattle.sf_insn.specs.declared.input.Input.{Input}
-pub use Rattle.sf_run.specs.Answers.{action_bits, action_number, action_of, data_bits}
-pub use Rattle.sf_run.specs.Walks.{CourseData, walk_of}
-pub use Rattle.sf_stack.specs.Texts.{action_text}
+pub use Rattle.sf_trace.specs.Common.{CourseData, Data, Input, Insn, action_bits, action_number, action_of, action_text, data_bits, decimal, flat_map, walk_of}
 pub use Rattle.sf_stack.specs.laws.TextLaws.{added_three, added_two}
 pub use Rattle.sf_trace.specs.CheckDocuments.{IsFilterAt}
 pub use Rattle.sf_trace.specs.Instructions.{AreInsnLines, insn_lines}
