@@ -1,5 +1,5 @@
 -- The keys of a policy file.
-use Rattle.std.specs.Prelude.{ℕ, Bool, true, List, [], ◌∷◌, codes, ◌&&◌}
+use Rattle.std.specs.Prelude.{ℕ, Bool, List, [], ◌∷◌, codes, not, Option, Some, None, is_some, if◌then◌else◌}
 use Rattle.sf_policy.specs.Common.{list_any, bytes_eq, Members, no_members, member}
 
 -- the keys of the sixteen words, in the order of `struct seccomp_data`
@@ -30,7 +30,11 @@ group_keys = codes "name" ∷ codes "title" ∷ codes "why" ∷ codes "questions
 abbrev pub groups_keys : List (List ℕ)
 groups_keys = codes "group" ∷ []
 
+-- the first key of a table that isn't one of these
+abbrev pub unknown_key : List (List ℕ) → Members → Option (List ℕ)
+unknown_key keys no_members = None
+unknown_key keys (member key d rest) = if list_any (bytes_eq key) keys then unknown_key keys rest else Some key
+
 -- each key of the table is one of these
 abbrev pub has_only : List (List ℕ) → Members → Bool
-has_only keys no_members = true
-has_only keys (member key d rest) = list_any (bytes_eq key) keys && has_only keys rest
+has_only keys ms = not (is_some (unknown_key keys ms))

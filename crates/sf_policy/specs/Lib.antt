@@ -5,6 +5,8 @@ pub mod Trees
 pub mod Words
 pub mod Actions
 pub mod Policies
+pub mod Refusals
 pub mod Encoding
 pub mod Accepted
 pub mod Groups
+pub mod Places

@@ -5,9 +5,12 @@
 #![tactic(auto)]
 
 mod accepted;
+mod comments;
+mod places;
 mod policy;
 
 pub use accepted::read_accepted;
+pub use places::{Mark, line_of, marks_of_questions, position_of};
 pub use policy::{Group, Refusal, WORD_KEYS, read_groups, read_policy, read_policy_at};
 
 /// The most questions of a policy and of an audit.

@@ -5,13 +5,14 @@ mod questions;
 mod refusal;
 mod words;
 
-ghost use Rattle.std.specs.Prelude.{◌≡◌, ◌⊎◌, Some, None, Err, is_some, codes, map, option_map};
+ghost use Rattle.std.specs.Prelude.{◌≡◌, ◌⊎◌, Some, None, Err, IfErr, is_some, codes, map, option_map};
 ghost use Rattle.std.specs.List.{list_all};
 ghost use Rattle.toml.specs.Data.{Members, as_table};
 ghost use Rattle.toml.specs.Parse.{parse_document};
 ghost use Rattle.toml.specs.View.{view, table_view};
 ghost use Rattle.sf_policy.specs.Faults.{IsDue, without_place};
 ghost use Rattle.sf_policy.specs.Encoding.{table_or_empty};
+ghost use Rattle.sf_policy.specs.Refusals.{tree_of};
 ghost use Rattle.sf_policy.specs.Trees.{number_at};
 ghost use Rattle.sf_policy.specs.Policies.{version_numbered, tables_of_value, policy_of};
 
@@ -73,8 +74,8 @@ fn policy_of_table(alloc: Global, table: &Table) -> Result<Vec<Question>, Fault>
     questions_in(alloc, version, items)
 }
 
-/// The questions of a policy file, as `read_policy` reads them. A refusal also has what was read of the file, from
-/// which a person can be shown where the fault lies.
+/// The questions of a policy file, as `read_policy` reads them. A refusal also has what was read of the file, and so
+/// tells where the fault lies.
 #[tactic(auto, using(crate::proofs::NeverSyntax::not_syntax))]
 pub fn read_policy_at(alloc: Global, text: &str) -> Result<Vec<Question>, Refusal>
     ensures read { (tree : Members) → parse_document text.now ≡ Some tree
@@ -84,6 +85,8 @@ pub fn read_policy_at(alloc: Global, text: &str) -> Result<Vec<Question>, Refusa
     ensures no_syntax { parse_document text.now ≡ None
         → (without_place result ≡ Err Fault.Syntax)
         ⊎ (without_place result ≡ Err Fault.Memory) }
+    ensures tree { (tree : Members) → parse_document text.now ≡ Some tree
+        → IfErr result (λ r. (r.fault ≡ Fault.Memory) ⊎ (tree_of r.read ≡ Some tree)) }
 {
     match toml::table_from_str(alloc, text) {
         Ok(table) => policy_of_table(alloc, &table).map_err(|fault| Refusal {

@@ -1,10 +1,10 @@
-ghost use Rattle.std.specs.Prelude.{◌≡◌, map, string_bytes, option_map};
+ghost use Rattle.std.specs.Prelude.{◌≡◌, find, map, not, string_bytes, option_map};
 ghost use Rattle.std.specs.BTreeMap.{keys};
-ghost use Rattle.std.specs.List.{list_any, list_all};
+ghost use Rattle.std.specs.List.{list_any};
 ghost use Rattle.std.specs.Str.{bytes_eq};
 ghost use Rattle.toml.specs.Data.{get_member};
 ghost use Rattle.toml.specs.View.{view, table_view};
-ghost use Rattle.sf_policy.specs.Keys.{group_keys, question_keys, has_only};
+ghost use Rattle.sf_policy.specs.Keys.{group_keys, question_keys, has_only, unknown_key};
 ghost use Rattle.sf_policy.specs.Trees.{number_at, number_or, text_at};
 
 use toml::{Table, Value};
@@ -62,24 +62,38 @@ pub(crate) fn is_among(text: &str, texts: &[&str]) -> bool
     texts.iter().any(|t| text == *t)
 }
 
-fn has_only_keys(table: &Table, known: &[&str]) -> bool
-    ensures { result ≡ list_all (λ key. list_any (λ k. bytes_eq (string_bytes key) k.now)
-        known.now) (keys table.now) }
+fn unknown_among<'a>(table: &'a Table, known: &[&str]) -> Option<&'a String>
+    ensures { option_map (λ key. key.now) result ≡ find (λ key. not (list_any
+        (λ k. bytes_eq (string_bytes key) k.now) known.now)) (keys table.now) }
 {
-    table.keys().all(|key| is_among(key.as_str(), known))
+    table.keys().find(|key| !is_among(key.as_str(), known))
 }
 
-#[tactic(auto, using(crate::proofs::policy::words::TreeLemmas::has_only_view))]
+/// The first key of a table, in the order of their bytes, that isn't known.
+#[tactic(auto, using(crate::proofs::policy::words::TreeLemmas::unknown_key_view))]
+pub(super) fn unknown_key<'a>(table: &'a Table, known: &[&str]) -> Option<&'a str>
+    ensures { option_map (λ key. key.now) result
+        ≡ unknown_key (map (λ k. k.now) known.now) (table_view table.now) }
+{
+    Some(unknown_among(table, known)?.as_str())
+}
+
 pub(super) fn has_only(table: &Table, known: &[&str]) -> bool
     ensures { result ≡ has_only (map (λ k. k.now) known.now) (table_view table.now) }
 {
-    has_only_keys(table, known)
+    unknown_key(table, known).is_none()
+}
+
+pub(super) fn unknown_question_key(table: &Table) -> Option<&str>
+    ensures { option_map (λ key. key.now) result ≡ unknown_key question_keys (table_view table.now) }
+{
+    unknown_key(table, QUESTION_KEYS.as_slice())
 }
 
 pub(super) fn has_question_keys(table: &Table) -> bool
     ensures { result ≡ has_only question_keys (table_view table.now) }
 {
-    has_only(table, QUESTION_KEYS.as_slice())
+    unknown_question_key(table).is_none()
 }
 
 pub(super) fn has_group_keys(table: &Table) -> bool

@@ -82,7 +82,7 @@ fn value_entry(version: Version, value: &Value) -> Option<WordEntry>
     }
 }
 
-fn entry_in(version: Version, table: &Table, key: &str) -> Option<WordEntry>
+pub(super) fn entry_in(version: Version, table: &Table, key: &str) -> Option<WordEntry>
     ensures { result ≡ entry_at version (get_member key.now (table_view table.now)) }
 {
     match value_at(table, key) {
@@ -110,7 +110,7 @@ pub(super) fn entries_in(version: Version, table: &Table) -> Option<[WordEntry; 
     entries_at(version, table, &WORD_KEYS)
 }
 
-fn numbers_of(entry: WordEntry) -> Option<((u32, u32), (u32, u32))>
+pub(super) fn numbers_of(entry: WordEntry) -> Option<((u32, u32), (u32, u32))>
     ensures { result ≡ numbers_in entry }
 {
     Some((

@@ -1,16 +1,34 @@
 -- The definitions over trees, at the lists that the code goes through.
-use Rattle.sf_policy.proofs.Common.{◌≡◌, ℕ, true, false, List, [], ◌∷◌, ◌&&◌, ◌||◌, Bool, map, refl, ap, ap₂, ◌∙◌, sym, String, string_bytes, Global, is_some, Option, Some, None, length, get_or, take, drop, set, ◌<◌, ◌≤◌, ◌+◌, ◌++◌, append_assoc, arith, Bor, unwrap_or, get_or-map, drop_more, length-map, take-set_at, list_any, list_all, keys_of, bytes_eq, Data, no_members, as_str, as_table, view, items_view, members_view, Value, has_only, option_cons, each_of, item_list, texts_of, tables_of, entry_of_array, text_or_empty, table_or_empty}
+use Rattle.sf_policy.proofs.Common.{◌≡◌, ℕ, true, false, List, [], ◌∷◌, ◌&&◌, ◌||◌, Bool, map, refl, ap, ◌∙◌, sym, String, string_bytes, Global, is_some, Option, Some, None, length, get_or, take, drop, set, ◌<◌, ◌≤◌, ◌+◌, ◌++◌, append_assoc, arith, Bor, unwrap_or, get_or-map, drop_more, length-map, take-set_at, list_any, list_all, keys_of, bytes_eq, Data, no_members, as_str, as_table, view, items_view, members_view, Value, unknown_key, find, cond, not, option_map, if◌then◌else◌, slice_get, IsItemAt, MatchOption, HoldsAt, value_numbered, ◌-◌, zero, suc, option_cons, each_of, item_list, texts_of, tables_of, entry_of_array, text_or_empty, table_or_empty}
 
 any_now : (p : List ℕ → Bool) (ks : List (Bor (List ℕ))) → list_any p (map (λ k. k.now) ks) ≡ list_any (λ k. p k.now) ks
 any_now p [] = refl
 any_now p (k ∷ ks) = ap (λ b. p k.now || b) (any_now p ks)
 
-pub has_only_view : (known : List (Bor (List ℕ))) (es : List (String Global × Value))
-    → has_only (map (λ k. k.now) known) (members_view es)
-    ≡ list_all (λ key. list_any (λ k. bytes_eq (string_bytes key) k.now) known) (keys_of es)
-has_only_view known [] = refl
-has_only_view known (e ∷ es) =
-    ap₂ (λ a b. a && b) (any_now (bytes_eq (string_bytes e.0)) known) (has_only_view known es)
+unknown_step : (known : Bool) (key : String Global) (rest : Option (List ℕ)) (found : Option (String Global))
+    → rest ≡ option_map string_bytes found → (if known then rest else Some (string_bytes key))
+    ≡ option_map string_bytes (cond (not known) (Some key) found)
+unknown_step true key rest found h = h
+unknown_step false key rest found h = refl
+
+pub unknown_key_view : (known : List (Bor (List ℕ))) (es : List (String Global × Value))
+    → unknown_key (map (λ k. k.now) known) (members_view es) ≡ option_map string_bytes
+    (find (λ key. not (list_any (λ k. bytes_eq (string_bytes key) k.now) known)) (keys_of es))
+unknown_key_view known [] = refl
+unknown_key_view known (e ∷ es) =
+    rw (any_now (bytes_eq (string_bytes e.0)) known)
+    (unknown_step (list_any (λ k. bytes_eq (string_bytes e.0) k.now) known) e.0 _ _ (unknown_key_view known es))
+
+found_now : (is_found : Bool) (k : Bor (List ℕ)) (rest : Option (Bor (List ℕ))) (rest' : Option (List ℕ))
+    → option_map (λ k. k.now) rest ≡ rest'
+    → option_map (λ k. k.now) (cond is_found (Some k) rest) ≡ cond is_found (Some k.now) rest'
+found_now true k rest rest' h = refl
+found_now false k rest rest' h = h
+
+pub find_now : (p : List ℕ → Bool) (ks : List (Bor (List ℕ)))
+    → option_map (λ k. k.now) (find (λ k. p k.now) ks) ≡ find p (map (λ k. k.now) ks)
+find_now p [] = refl
+find_now p (k ∷ ks) = found_now (p k.now) k _ _ (find_now p ks)
 
 pub short_array : (vs : List Value) → length vs < 2 → None ≡ entry_of_array (items_view vs)
 short_array [] h = refl
@@ -23,9 +41,26 @@ long_array (v ∷ []) h = refl
 long_array (v ∷ w ∷ []) h = absurd (omega arith)
 long_array (v ∷ w ∷ x ∷ vs) h = refl
 
-listed_view : (vs : List Value) → item_list (items_view vs) ≡ map view vs
+pub listed_view : (vs : List Value) → item_list (items_view vs) ≡ map view vs
 listed_view [] = refl
 listed_view (v ∷ vs) = ap (λ ds. view v ∷ ds) (listed_view vs)
+
+-- the value that is lent at a place
+lent_view : (vs : List Value) (place : ℕ) (r : Option (Bor Value))
+    → MatchOption r (length vs ≤ place) (λ v. (place < length vs) × HoldsAt (λ w. v.now ≡ w) vs place)
+    → option_map (λ v. view v.now) r ≡ slice_get (map view vs) place
+lent_view [] place None h = refl
+lent_view [] place (Some v) h = absurd (omega (arith, h.0))
+lent_view (w ∷ ws) zero None h = absurd (omega (arith, h))
+lent_view (w ∷ ws) zero (Some v) h = ap (λ x. Some (view x)) (h.1 w)
+lent_view (w ∷ ws) (suc place) None h = lent_view ws place None (omega (arith, h))
+lent_view (w ∷ ws) (suc place) (Some v) h = lent_view ws place (Some v) (omega (arith, h.0), h.1)
+
+pub numbered_view : (vs : List Value) (number : ℕ) (r : Option (Bor Value)) → 1 ≤ number
+    → IsItemAt vs (number - 1) r → option_map (λ v. view v.now) r ≡ value_numbered (map view vs) number
+numbered_view vs zero r h lent = absurd (omega (arith, h))
+numbered_view vs (suc place) r h lent =
+    let same : suc place - 1 ≡ place = omega arith in lent_view vs place r (rw same at lent.3)
 
 -- Where each value can be read, all of them are.
 each_read : {X : Type 0} (read : Data → Option X) (absent : X) (vs : List Value)

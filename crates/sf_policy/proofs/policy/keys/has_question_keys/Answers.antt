@@ -1,4 +1,0 @@
-use Rattle.sf_policy.proofs.policy.keys.has_question_keys.Goals as goal
-
-pub returns : goal.returns
-returns c = rw c.as_slice.ensures at c.has_only.ensures
