@@ -4,7 +4,7 @@ pub use Rattle.std.proofs.Math.Path.{fun_ext}
 pub use Rattle.std.proofs.lemmas.Bool.{and_left, and_right}
 pub use Rattle.std.proofs.lemmas.Grind.{common_steps}
 pub use Rattle.std.proofs.lemmas.Iterator.Consumers.{YieldsList-at, YieldsList-from_filter, count_from_yields_List, map_from_collect}
-pub use Rattle.std.proofs.lemmas.Iterator.Search.{all_from_yields_List}
+pub use Rattle.std.proofs.lemmas.Iterator.Search.{find_from_yields_List}
 pub use Rattle.std.proofs.lemmas.Iterator.Splits.{YieldsList-from_str_split}
 pub use Rattle.std.proofs.lemmas.List.{flat_map_more, length-map, length-take, length_push, map-append, take-append-le, take_all, take_more}
 pub use Rattle.std.proofs.lemmas.List.Elements.{All-push}
@@ -12,16 +12,12 @@ pub use Rattle.std.proofs.lemmas.List.Folds.{list_all-map}
 pub use Rattle.std.proofs.lemmas.List.Sums.{length-filter}
 pub use Rattle.std.proofs.lemmas.Option.{get_or_from_slice_get, same_Some, slice_get-get_or, slice_get_within}
 pub use Rattle.std.proofs.lemmas.Result.{IfErr-weaker, IfOk-weaker, on_ok_weaker}
-pub use Rattle.std.specs.List.{flat_map, list_all, list_any}
 pub use Rattle.std.specs.Prelude.{Err, IfErr, IfOk, Ok, Result, if◌then◌else◌, is_ok, is_some, nat_lt, option_map, unwrap_or, ◌==◌}
-pub use Rattle.std.specs.Str.{bytes_eq}
 pub use Rattle.clap.proofs.WalkLemmas.{first_value-rows, list_any-map}
 pub use Rattle.clap.specs.Words.{Row, Text, first_of, found_of, one_of, rows_of}
-pub use Rattle.serde_json.specs.Data.{Data}
 pub use Rattle.serde_json.specs.View.{view}
 pub use Rattle.serde_json.specs.declared.value.Value.{Value}
-pub use Rattle.sf_calls.specs.Numbers.{comma_parts, read_arguments}
-pub use Rattle.sf_check.specs.declared.insn.Insn.{Insn}
+pub use Rattle.sf_evaluate.specs.Common.{AreSetsJoined, AreSetsUnfit, Data, Fault, FileRead, FileRole, Insn, IsFirstRefusal, IsRefusalOfBoth, Members, NamesData, Other, Policy, QuestionData, Settings, SpellStack, Strictest, X64, bytes_eq, comma_parts, flat_map, list_all, list_any, of_names, parse_document, policy_of, read_arguments, version_of}
 pub use Rattle.sf_command_line.specs.Options.{ArePaths, IsSwitch, paths_of, text_of}
 pub use Rattle.sf_command_line.specs.laws.OptionsLaws.{paths_found}
 pub use Rattle.sf_evaluate.specs.Asking.{LacksName, is_given, is_nr_narrow, lacks_names, names_paths, numbers_fit}
@@ -36,27 +32,9 @@ pub use Rattle.sf_evaluate.specs.Pairs.{Pairwise}
 pub use Rattle.sf_evaluate.specs.Policies.{AreAsked, IsPolicyFile, RefusesAsking, RefusesPolicyFile}
 pub use Rattle.sf_evaluate.specs.Profiles.{AreCallsOf, AreSettings, HasOtherSet, IsReadFor, RefusesProfile, RefusesProfileOf, WritesOf, WritesProfile, have_sets, is_capability, machine_named, profile_words_fit, reading_named}
 pub use Rattle.sf_evaluate.specs.Wanted.{is_known_call, is_wanted_once, names_in_text}
-pub use Rattle.sf_evaluate.specs.declared.fault.Fault.TheVariants.{Other}
-pub use Rattle.sf_evaluate.specs.declared.files.identity.FileRole.{FileRole}
-pub use Rattle.sf_evaluate.specs.declared.files.identity.FileRole.TheVariants.{Policy}
-pub use Rattle.sf_evaluate.specs.declared.files.opened.FileRead.{FileRead}
 pub use Rattle.sf_evaluate.specs.laws.FilesLaws.{handed_on}
-pub use Rattle.sf_names.specs.Joined.{AreSetsJoined, AreSetsUnfit}
-pub use Rattle.sf_names.specs.Names.{NamesData}
 pub use Rattle.sf_names.specs.laws.JoinedLaws.{joined_append, unfit_append}
 pub use Rattle.sf_policy.specs.Faults.{IsDue, without_place}
-pub use Rattle.sf_policy.specs.Policies.{policy_of}
-pub use Rattle.sf_profile.specs.Profiles.{version_of}
 pub use Rattle.sf_profile.specs.declared.fault.Fault.TheVariants.{Memory}
-pub use Rattle.sf_profile.specs.declared.rules.CallSet.TheVariants.{X64}
-pub use Rattle.sf_profile.specs.declared.rules.Reading.TheVariants.{Strictest}
-pub use Rattle.sf_profile.specs.declared.settings.Settings.{Settings}
-pub use Rattle.sf_question.specs.QuestionData.{QuestionData}
-pub use Rattle.sf_stack.specs.Faults.{of_names}
-pub use Rattle.sf_stack.specs.Filters.{IsFirstRefusal, SpellStack}
-pub use Rattle.sf_stack.specs.TwoStacks.{IsRefusalOfBoth}
-pub use Rattle.sf_stack.specs.declared.fault.Fault.{Fault}
 pub use Rattle.sf_stack.specs.declared.fault.Fault.TheVariants.{Input, UnknownName}
 pub use Rattle.sf_stack.specs.laws.FiltersLaws.{as_many}
-pub use Rattle.toml.specs.Data.{Members}
-pub use Rattle.toml.specs.Parse.{parse_document}

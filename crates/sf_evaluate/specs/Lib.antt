@@ -13,5 +13,6 @@ pub mod Faults
 pub mod Profiles
 pub mod Asking
 pub mod Wanted
+pub mod Words
 pub mod Origins
 pub mod laws

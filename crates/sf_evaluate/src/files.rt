@@ -17,8 +17,7 @@ ghost use Rattle.sf_evaluate.specs.Identity.{HasFiles};
 ghost use Rattle.sf_stack.specs.declared.fault.Fault.TheVariants.{Memory, Read};
 
 use crate::explaining::Notes;
-pub(crate) use expecting::control_fits;
-pub use expecting::{accepted_in, audit_words_fit, control_in, is_switched_on, wants_summary};
+pub use expecting::{accepted_in, control_in};
 pub use groups::{INSTALLED_GROUPS, groups_in};
 use identity::push_file;
 pub use identity::{FileRole, Identity, identified, join_documents};

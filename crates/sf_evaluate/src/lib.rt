@@ -16,16 +16,16 @@ mod telling;
 mod words;
 
 pub use checking::{CheckManner, Evaluation, Manner, check, evaluate, print};
-pub use explaining::Notes;
+pub use explaining::{Cause, Notes};
 pub use fault::Fault;
 pub use files::{
     FileRead, FileRole, Files, INSTALLED_GROUPS, Identity, MOST_BYTES, Policies, accepted_in,
-    all_questions_in, audit_words_fit, control_in, groups_in, identified, is_switched_on,
-    join_documents, read_needed_names, read_stack, read_stacks, wants_summary,
+    all_questions_in, control_in, groups_in, identified, join_documents, read_needed_names,
+    read_stack, read_stacks,
 };
 pub use profiling::profile;
 pub use telling::{tell, tell_fault, warn};
 pub use words::{
-    asked_input, calls_fit, digest_fits, eval_words_fit, is_given, known_calls, numbers_fit,
-    profile_words_fit, rows_fit, tell_wrong_words,
+    asked_input, is_given, is_switched_on, known_calls, numbers_fit, tell_wrong_words,
+    wants_summary, words_fit_for,
 };

@@ -8,7 +8,7 @@ ghost use Rattle.sf_evaluate.specs.Profiles.{IsReadFor, RefusesNamesOf, RefusesP
 
 use crate::calls::calls_of;
 use crate::checking::print;
-use crate::explaining::{Notes, OtherSet};
+use crate::explaining::{Cause, Notes};
 use crate::fault::Fault;
 use crate::files::{FileRole, Files, read_file, read_needed_names};
 use crate::words::{profile_words_fit, settings_of};
@@ -78,20 +78,14 @@ fn write_of<O: Write>(
     Ok(write_bytes(&filter, out)?)
 }
 
-/// The place, from 0, and the name of the first set that is none of the five of `CallSet`, by its architecture, not by
-/// its name.
-fn other_set(alloc: Global, names: &[Names]) -> Result<Option<OtherSet>, AllocError> {
-    for (place, one) in names.iter().enumerate() {
-        if set_of_names(one).is_none() {
-            let name = String::from_str(alloc, one.set())?;
-            return Ok(Some(OtherSet { place, name }));
-        }
-    }
-    Ok(None)
+/// The first set that is none of the five of `CallSet`, by its architecture, not by its name.
+fn other_set(alloc: Global, names: &[Names]) -> Option<Cause> {
+    let place = names.iter().position(|set| set_of_names(set).is_none())?;
+    let name = String::from_str(alloc, names.get(place)?.set()).ok()?;
+    Some(Cause::OtherSet(place, name))
 }
 
-/// The settings for a profile: what the command line says, with the calls of the files of names. The notes get what
-/// `other_set` gives.
+/// The settings for a profile: what the command line says, with the calls of the files of names.
 fn read_settings<F: Files>(
     alloc: Global,
     found: &ArgMatches<'_>,
@@ -105,22 +99,13 @@ fn read_settings<F: Files>(
     ensures same { (p : List ℕ) → F.holds files.new p ≡ F.holds files.old p }
 {
     let names = read_needed_names(alloc, found, files, notes)?;
-    notes.other = other_set(alloc, &names);
-    let calls = calls_of(alloc, names)?;
-    Ok(settings_of(alloc, found, calls)?)
-}
-
-/// Keeps for which key the profile of these bytes is refused with this fault, and why; or that no file failed.
-fn keep_refused(
-    alloc: Global,
-    settings: &Settings,
-    bytes: &[u8],
-    fault: &Fault,
-    notes: &mut Notes,
-) {
-    match fault {
-        Fault::Profile(refusal) => notes.refused = refused(alloc, settings, bytes, *refusal),
-        Fault::Other(_) => notes.last = None,
+    let other = other_set(alloc, &names);
+    match calls_of(alloc, names) {
+        Ok(calls) => Ok(settings_of(alloc, found, calls)?),
+        Err(fault) => {
+            notes.cause = other;
+            Err(fault.into())
+        }
     }
 }
 
@@ -170,7 +155,13 @@ pub fn profile<F: Files, O: Write>(
             Ok(0)
         }
         Err(fault) => {
-            keep_refused(alloc, &settings, &bytes, &fault, notes);
+            match &fault {
+                Fault::Profile(refusal) => {
+                    let refused = refused(alloc, &settings, &bytes, *refusal);
+                    notes.cause = refused.ok().map(Cause::Profile);
+                }
+                Fault::Other(_) => notes.last = None,
+            }
             Err(fault)
         }
     }

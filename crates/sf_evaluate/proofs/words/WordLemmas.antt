@@ -1,6 +1,6 @@
 -- What words say, seen as texts and not as borrows of texts.
-use Rattle.sf_evaluate.proofs.Common.{◌≡◌, ◌&&◌, Bool, true, false, List, map, refl, codes, string_bytes, is_some, unwrap_or, Row, Text, one_of, IsSwitch, paths_of, text_of, version_of, X64, Strictest, Settings, AreSettings, machine_named, reading_named, profile_words_fit, arith, common_steps}
-use Rattle.std.specs.Prelude.{Option, Some, None}
+use Rattle.sf_evaluate.proofs.Common.{◌≡◌, ◌&&◌, not, list_all, Bool, true, false, List, map, refl, codes, string_bytes, is_some, unwrap_or, Row, Text, one_of, IsSwitch, paths_of, text_of, version_of, X64, Strictest, Settings, AreSettings, machine_named, reading_named, profile_words_fit, arith, common_steps}
+use Rattle.std.specs.Prelude.{Option, Some, None, [], ◌∷◌, find, is_none}
 
 -- what is there, or another thing
 some_or : {X : Type 0} (o : Option X) (x : X) → is_some o ≡ true → o ≡ Some (unwrap_or o x)
@@ -22,3 +22,8 @@ pub settings_said : (rows : List Row) (s : Settings) (machine conflicts kernel :
     → IsSwitch (one_of (codes "skip-unknown") rows) s.skip_unknown → AreSettings rows s
 settings_said rows s machine conflicts kernel fits m m_is r r_is k k_is caps newer skip =
     grind (arith, common_steps, some_or, first_hold)
+
+-- all pass just where nothing is found that doesn't
+pub none_fails : {X : Type 0} (test : X → Bool) (xs : List X) → is_none (find (λ x. not (test x)) xs) ≡ list_all test xs
+none_fails test [] = refl
+none_fails test (x ∷ xs) = grind (arith, common_steps, none_fails test xs)

@@ -209,17 +209,14 @@ fn hint_of_key(refusal: &Refusal, key: &str, value: &Value) -> Option<Hint> {
 }
 
 /// The hint for a policy that is refused, by its fault.
-pub(crate) fn hint_of_refusal(
-    alloc: Global,
-    refusal: &Refusal,
-) -> Result<Option<Hint>, AllocError> {
+pub(crate) fn hint_of_refusal(refusal: &Refusal) -> Option<Hint> {
     if refusal.fault == Fault::Version {
-        return Ok(Some(Hint::Sentence("a policy begins with `version = 2`")));
+        return Some(Hint::Sentence("a policy begins with `version = 2`"));
     }
-    if refusal.fault == Fault::Count && refusal.items().is_empty() {
-        return Ok(Some(hint_of_top_key("question")));
+    if refusal.fault == Fault::Count && refusal.count() == 0 {
+        return Some(hint_of_top_key("question"));
     }
-    let key = refusal.key(alloc)?;
-    let value = refusal.table().and_then(|table| table.get(key));
-    Ok(value.and_then(|value| hint_of_key(refusal, key, value)))
+    let key = refusal.key()?;
+    let value = refusal.table()?.get(key)?;
+    hint_of_key(refusal, key, value)
 }

@@ -1,8 +1,7 @@
 //! What is shown of a policy that is refused. It is safe on a terminal: long texts are cut, and characters that a
 //! terminal obeys or hides are replaced.
 
-use super::places::{line_of, position_of};
-use sf_policy::{MOST_QUESTIONS, Refusal};
+use sf_policy::{MOST_QUESTIONS, Refusal, line_of, position_of};
 use sf_stack::Fault;
 use std::alloc::{AllocError, Global};
 
@@ -68,7 +67,7 @@ impl Page<'_> {
     /// Adds the key that is refused, and the line on which it stands, or that it is missing, and the line on which its
     /// question begins.
     fn push_key(&mut self, refusal: &Refusal) -> Result<(), AllocError> {
-        let key = refusal.key(self.alloc)?;
+        let key = refusal.key().unwrap_or("");
         let is_there = refusal.table().is_some_and(|table| table.contains_key(key));
         self.text
             .push_str(if is_there { "key " } else { "no key " })?;
@@ -92,7 +91,7 @@ impl Page<'_> {
             write!(self.text, "{message}\nline {line} column {column}")?;
             return self.push_line(line);
         }
-        let count = refusal.items().len();
+        let count = refusal.count();
         if refusal.fault == Fault::Count && MOST_QUESTIONS < count {
             write!(
                 self.text,

@@ -1,30 +1,24 @@
 //! What is said of a profile that is refused, or of a set of calls for which `profile` is refused.
 
-use super::Case;
 use super::hints::hint_of_kind;
 use super::meanings::meaning_of_refusal;
+use super::{Case, Cause};
 use sf_command_line::text_of;
+use sf_profile::Refused;
 use std::alloc::AllocError;
 
-#[derive(Drop)]
-pub(crate) struct OtherSet {
-    pub(crate) place: usize,
-    pub(crate) name: String,
-}
-
 impl Case<'_, '_> {
-    /// Adds the line of the file of names that has the set `other`, and the line of this set where the file has
+    /// Adds the line of the file of names that has the set at this place, and the line of this set where the file has
     /// several.
-    fn push_unknown_set(&self, text: &mut String, other: &OtherSet) -> Result<(), AllocError> {
+    fn push_other_set(&self, text: &mut String, place: usize, set: &str) -> Result<(), AllocError> {
         let sets = &self.notes.sets;
-        let Some(file) = sets.iter().position(|set| other.place < set.1) else {
+        let Some(file) = sets.iter().position(|set| place < set.1) else {
             return Err(AllocError);
         };
         let paths = self.found.get_strs("names").unwrap_or(&[]);
         let path = paths.get(file).copied().unwrap_or("");
         write!(text, "names {path:?}\n")?;
         if sets.get(file).is_some_and(|set| set.0 > 1) {
-            let set = &other.name;
             write!(text, "set {set:?}\n")?;
         }
         Ok(())
@@ -32,12 +26,9 @@ impl Case<'_, '_> {
 
     /// Adds the line of the profile, and those of the key for which it is refused and of the reason, where they are
     /// known.
-    fn push_refused_profile(&self, text: &mut String) -> Result<(), AllocError> {
+    fn push_refused(&self, text: &mut String, refused: &Refused) -> Result<(), AllocError> {
         let path = text_of(self.found, "profile");
         write!(text, "profile {path:?}\n")?;
-        let Ok(refused) = &self.notes.refused else {
-            return Err(AllocError);
-        };
         if let Some(key) = &refused.key {
             write!(text, "key {key:?}\n")?;
         }
@@ -51,17 +42,17 @@ impl Case<'_, '_> {
     /// a hint.
     pub(super) fn refusal_text(&self, refusal: sf_profile::Fault) -> Result<String, AllocError> {
         let mut text = String::new(self.alloc);
-        let hint = match &self.notes.other {
-            Ok(Some(other)) => {
-                self.push_unknown_set(&mut text, other)?;
+        let hint = match &self.notes.cause {
+            Some(Cause::OtherSet(place, name)) => {
+                self.push_other_set(&mut text, *place, name.as_str())?;
                 None
             }
-            Ok(None) => {
-                self.push_refused_profile(&mut text)?;
+            Some(Cause::Profile(refused)) => {
+                self.push_refused(&mut text, refused)?;
                 let file = self.notes.last.as_ref();
                 file.and_then(|file| hint_of_kind(file, false))
             }
-            Err(_) => return Err(AllocError),
+            _ => return Err(AllocError),
         };
         let meaning = meaning_of_refusal(refusal);
         write!(text, "{meaning}\n")?;

@@ -5,8 +5,9 @@ ghost use Rattle.serde_json.specs.Data.{Data};
 ghost use Rattle.serde_json.specs.View.{view};
 ghost use Rattle.sf_evaluate.specs.Origins.{AreOriginsOf, IsOrigin};
 
-use crate::explaining::{Mark, bytes_of_text, marks_of_questions};
+use crate::explaining::bytes_of_text;
 use sf_json::{Document, Fields};
+use sf_policy::{Mark, marks_of_questions};
 use std::alloc::{AllocError, Global};
 
 /// Where a question stands, as a JSON object: at `policy` the path of its file, at `line` the number, from 1, of the

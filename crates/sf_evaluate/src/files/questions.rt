@@ -20,17 +20,16 @@ use sf_question::Question;
 use sf_stack::Fault;
 use std::alloc::Global;
 
-/// The questions of the policy file at a path. The notes keep its bytes and its refusal.
+/// The questions of the policy file at a path, and its bytes.
 pub(crate) fn questions_in<F: Files>(
     alloc: Global,
     role: FileRole,
     path: &str,
     files: &mut F,
     notes: &mut Notes,
-) -> Result<Vec<Question>, Fault>
-    ensures asked { IfOk result (λ v. IsPolicyFile (F.holds files.old path.now) v.items) }
-    ensures kept { IfOk result (λ _. AreKnownBytes (F.holds files.old path.now)
-        notes.new.policy.items) }
+) -> Result<(Vec<Question>, Vec<u8>), Fault>
+    ensures asked { IfOk result (λ r. IsPolicyFile (F.holds files.old path.now) r.0.items) }
+    ensures kept { IfOk result (λ r. AreKnownBytes (F.holds files.old path.now) r.1.items) }
     ensures refused { IfErr result (λ e. ((e ≡ ReadFault)
         × (F.holds files.old path.now ≡ None))
         ⊎ (e ≡ MemoryFault) ⊎ RefusesPolicyFile (F.holds files.old path.now) e) }
@@ -39,13 +38,12 @@ pub(crate) fn questions_in<F: Files>(
     ensures same { (p : List ℕ) → F.holds files.new p ≡ F.holds files.old p }
 {
     let bytes = read_file(alloc, role, path, files, notes)?;
-    notes.policy = bytes;
-    match std::str::from_utf8(&notes.policy) {
-        Ok(text) => {
-            let read = read_policy_at(alloc, text);
-            notes.take_refusal(read)
-        }
-        Err(_) => Err(Fault::Syntax),
+    match std::str::from_utf8(&bytes) {
+        Ok(text) => match read_policy_at(alloc, text) {
+            Ok(questions) => Ok((questions, bytes)),
+            Err(refusal) => Err(notes.take_refusal(bytes, Some(refusal))),
+        },
+        Err(_) => Err(notes.take_refusal(bytes, None)),
     }
 }
 
@@ -63,7 +61,7 @@ pub struct Policies {
 }
 
 /// What is read of the policy files at these paths, with origins and the documents of files where these are asked for.
-/// The notes keep the bytes of the last one and its refusal, which numbers the questions of each file from 1.
+/// A refusal numbers the questions of each file from 1.
 pub fn all_questions_in<F: Files>(
     alloc: Global,
     paths: &[&str],
@@ -88,15 +86,14 @@ pub fn all_questions_in<F: Files>(
     let mut documents = Vec::new(alloc);
     for path in paths {
         let role = FileRole::Policy;
-        let mut questions = questions_in(alloc, role, path, files, notes)?;
-        let policy = &notes.policy;
-        push_file(alloc, &mut documents, with_documents, role, path, policy)?;
+        let (mut questions, policy) = questions_in(alloc, role, path, files, notes)?;
+        push_file(alloc, &mut documents, with_documents, role, path, &policy)?;
         push_origins(
             alloc,
             &mut origins,
             with_origins,
             path,
-            policy,
+            &policy,
             questions.len(),
         )?;
         all.append(&mut questions)?;

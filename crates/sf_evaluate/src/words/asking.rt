@@ -1,14 +1,16 @@
 //! The input that `eval` is asked for, by the words of the command line.
 
-ghost use Rattle.std.specs.Prelude.{◌≡◌, ◌⊎◌, IfErr, IfOk, None, Ok, Some, codes, false, is_ok};
+ghost use Rattle.std.specs.Prelude.{◌≡◌, ◌&&◌, ◌||◌, ◌⊎◌, IfErr, IfOk, None, Ok, Some, codes, false, is_none, is_ok, not};
 ghost use Rattle.clap.specs.Words.{found_of, rows_of};
 ghost use Rattle.sf_command_line.specs.Options.{text_of};
-ghost use Rattle.sf_calls.specs.Numbers.{read_arguments, read_number};
+ghost use Rattle.sf_calls.specs.Numbers.{is_number, read_arguments, read_number};
+ghost use Rattle.sf_names.specs.Names.{is_call_name};
 ghost use Rattle.sf_stack.specs.declared.fault.Fault.TheVariants.{Input as InputFault, UnknownName as NameFault};
 ghost use Rattle.sf_evaluate.specs.Asking.{AsksInput, IsCallInput, LacksName, asked_arch, asked_nr, eval_words_fit, is_given, is_nr_narrow, numbers_fit};
 
+use super::misfits::{Misfit, Misspelled};
 use crate::checking::input_of;
-use crate::explaining::Notes;
+use crate::explaining::{Cause, Notes};
 use clap::ArgMatches;
 use sf_calls::{are_arguments, call_input, is_number, read_arguments, read_word};
 use sf_command_line::text_of;
@@ -23,46 +25,129 @@ pub fn is_given(found: &ArgMatches<'_>, name: &str) -> bool
     found.get_str(name).is_some()
 }
 
-/// Whether the words of `eval` ask for one input: by `--input`, or by a call's name or its number, its architecture and
-/// its arguments. Whether texts spell an input, and numbers fit into their places, is asked by `numbers_fit`.
-pub fn eval_words_fit(found: &ArgMatches<'_>) -> bool
-    ensures { result ≡ eval_words_fit (rows_of (found_of found.now)) }
+const CALL: &str = "--call <NAME>";
+
+const NR: &str = "--nr <N>";
+
+const ARCH: &str = "--arch <SET>";
+
+const ARGS: &str = "--args <A,..>";
+
+/// The first option of a call that is given beside `--input`.
+fn misfit_of_input<'a>(found: &ArgMatches<'a>) -> Option<Misfit<'a>>
+    ensures { is_none result ≡ (not (is_given (codes "call") (rows_of (found_of found.now))
+        || is_given (codes "nr") (rows_of (found_of found.now)))
+        && not (is_given (codes "arch") (rows_of (found_of found.now))
+        || is_given (codes "args") (rows_of (found_of found.now)))) }
+{
+    const INPUT: &str = "--input <HEX>";
+    if is_given(found, "call") {
+        Some(Misfit::Both(INPUT, CALL))
+    } else if is_given(found, "nr") {
+        Some(Misfit::Both(INPUT, NR))
+    } else if is_given(found, "arch") {
+        Some(Misfit::Both(INPUT, ARCH))
+    } else {
+        is_given(found, "args").then(|| Misfit::Both(INPUT, ARGS))
+    }
+}
+
+fn misfit_of_name<'a>(found: &ArgMatches<'a>) -> Option<Misfit<'a>>
+    ensures { is_none result ≡ (is_call_name (text_of (codes "call") (rows_of (found_of found.now)))
+        && is_call_name (text_of (codes "arch") (rows_of (found_of found.now)))) }
+{
+    let (call, arch) = (text_of(found, "call"), text_of(found, "arch"));
+    if !is_call_name(call) {
+        return Some(Misfit::Value(
+            CALL,
+            call,
+            "1 to 64 letters, digits and _: --nr takes a number",
+        ));
+    }
+    let taken = "the name of a set of calls, such as x86_64";
+    (!is_call_name(arch)).then(|| Misfit::Value(ARCH, arch, taken))
+}
+
+fn misfit_of_number<'a>(found: &ArgMatches<'a>) -> Option<Misfit<'a>>
+    ensures { is_none result ≡ (is_number (text_of (codes "nr") (rows_of (found_of found.now)))
+        && (is_number (text_of (codes "arch") (rows_of (found_of found.now)))
+        || is_call_name (text_of (codes "arch") (rows_of (found_of found.now))))) }
+{
+    let (nr, arch) = (text_of(found, "nr"), text_of(found, "arch"));
+    if !is_number(nr) {
+        return Some(Misfit::Value(NR, nr, "decimal digits, or 0x and hexadecimal digits"));
+    }
+    let taken = "the name of a set of calls, such as x86_64, or the number of an architecture";
+    (!(is_number(arch) || is_call_name(arch))).then(|| Misfit::Value(ARCH, arch, taken))
+}
+
+/// The first thing that doesn't fit in the words of `eval`, which ask for one input: by `--input`, or by a call's name
+/// or its number, its architecture and its arguments.
+pub(super) fn misfit_of_eval<'a>(found: &ArgMatches<'a>) -> Option<Misfit<'a>>
+    ensures { is_none result ≡ eval_words_fit (rows_of (found_of found.now)) }
 {
     if is_given(found, "input") {
-        return !(is_given(found, "call") || is_given(found, "nr"))
-            && !(is_given(found, "arch") || is_given(found, "args"));
+        return misfit_of_input(found);
     }
-    let (args, arch) = (text_of(found, "args"), text_of(found, "arch"));
-    if !(is_given(found, "arch") && (is_given(found, "args") && are_arguments(args))) {
-        return false;
+    let (by_name, by_number) = (is_given(found, "call"), is_given(found, "nr"));
+    if by_name && by_number {
+        return Some(Misfit::Both(CALL, NR));
     }
-    if is_given(found, "call") {
-        return !is_given(found, "nr")
-            && (is_call_name(text_of(found, "call")) && is_call_name(arch));
+    if !by_name && !by_number {
+        return Some(Misfit::Missing("--input <HEX>, --call <NAME> or --nr <N>"));
     }
-    is_given(found, "nr")
-        && (is_number(text_of(found, "nr")) && (is_number(arch) || is_call_name(arch)))
+    if !is_given(found, "arch") {
+        return Some(Misfit::Missing(ARCH));
+    }
+    if !is_given(found, "args") {
+        return Some(Misfit::Missing(ARGS));
+    }
+    let args = text_of(found, "args");
+    if !are_arguments(args) {
+        let taken =
+            "one to six numbers with commas between them: decimal digits, or 0x and hexadecimal digits";
+        return Some(Misfit::Value(ARGS, args, taken));
+    }
+    if by_name {
+        misfit_of_name(found)
+    } else {
+        misfit_of_number(found)
+    }
 }
 
-fn is_nr_narrow(found: &ArgMatches<'_>) -> bool
-    ensures { result ≡ is_nr_narrow (rows_of (found_of found.now)) }
+/// Whether all inputs of a call with a name are asked for.
+pub(super) fn asks_all_inputs(found: &ArgMatches<'_>) -> bool {
+    is_given(found, "call") && !is_given(found, "args")
+}
+
+/// The text of `--input`, where it spells no input, or the first number of a call that doesn't fit into its place.
+pub(crate) fn misspelled<'a>(found: &ArgMatches<'a>) -> Option<Misspelled<'a>>
+    ensures { is_none result ≡ numbers_fit (rows_of (found_of found.now)) }
 {
+    if is_given(found, "input") {
+        let input = text_of(found, "input");
+        return input_of(input).is_err().then(|| Misspelled::Input(input));
+    }
+    let args = text_of(found, "args");
+    if read_arguments(args).is_err() {
+        return Some(Misspelled::Number("args", args, 64));
+    }
     if !is_given(found, "nr") {
-        return true;
+        return None;
     }
     let (nr, arch) = (text_of(found, "nr"), text_of(found, "arch"));
-    read_word(nr).is_ok() && (!is_number(arch) || read_word(arch).is_ok())
+    if read_word(nr).is_err() {
+        return Some(Misspelled::Number("nr", nr, 32));
+    }
+    let is_wide = is_number(arch) && read_word(arch).is_err();
+    is_wide.then(|| Misspelled::Number("arch", arch, 32))
 }
 
-/// Whether the text of `--input` spells an input, or each number that is given for a call fits into its place. `eval`
-/// asks this before it reads any file.
+/// Whether nothing is misspelled. `eval` asks this before it reads any file.
 pub fn numbers_fit(found: &ArgMatches<'_>) -> bool
     ensures { result ≡ numbers_fit (rows_of (found_of found.now)) }
 {
-    if is_given(found, "input") {
-        return input_of(text_of(found, "input")).is_ok();
-    }
-    read_arguments(text_of(found, "args")).is_ok() && is_nr_narrow(found)
+    misspelled(found).is_none()
 }
 
 fn word_of(text: &str) -> Result<u32, Fault>
@@ -93,7 +178,7 @@ fn asked_nr(found: &ArgMatches<'_>, names: &[Names]) -> Result<u32, Fault>
 }
 
 /// The architecture. With `--call`, the text of `--arch` is the name of a set, even if it looks like a number.
-fn asked_arch(found: &ArgMatches<'_>, names: &[Names]) -> Result<u32, Fault>
+fn asked_arch(found: &ArgMatches<'_>, names: &[Names], notes: &mut Notes) -> Result<u32, Fault>
     ensures asked { IfOk result (λ n. asked_arch (rows_of (found_of found.now))
         names.now ≡ Some n) }
     ensures refused { IfErr result (λ e. ((e ≡ InputFault)
@@ -105,12 +190,15 @@ fn asked_arch(found: &ArgMatches<'_>, names: &[Names]) -> Result<u32, Fault>
     }
     match find_set(names, text_of(found, "arch")) {
         Some(set) => Ok(set.arch()),
-        None => Err(Fault::UnknownName),
+        None => {
+            notes.cause = Some(Cause::UnknownSet);
+            Err(Fault::UnknownName)
+        }
     }
 }
 
 /// The input of the call that is asked for. Its arguments are refused first, then its architecture, then its number.
-fn asked_call(found: &ArgMatches<'_>, names: &[Names]) -> Result<Input, Fault>
+fn asked_call(found: &ArgMatches<'_>, names: &[Names], notes: &mut Notes) -> Result<Input, Fault>
     ensures asked { IfOk result (λ d. IsCallInput (rows_of (found_of found.now)) names.now d) }
     ensures refused { IfErr result (λ e. ((e ≡ InputFault)
         × ((is_ok (read_arguments (text_of (codes "args") (rows_of (found_of found.now))))
@@ -119,12 +207,12 @@ fn asked_call(found: &ArgMatches<'_>, names: &[Names]) -> Result<Input, Fault>
         ⊎ ((e ≡ NameFault) × LacksName (rows_of (found_of found.now)) names.now)) }
 {
     let arguments = read_arguments(text_of(found, "args")).map_err(|_| Fault::Input)?;
-    let arch = asked_arch(found, names)?;
+    let arch = asked_arch(found, names, notes)?;
     let nr = asked_nr(found, names)?;
     Ok(call_input(nr, arch, &arguments))
 }
 
-/// The input that the words ask for. The notes also keep whether there is a set with the name behind `--arch`.
+/// The input that the words ask for.
 pub fn asked_input(
     found: &ArgMatches<'_>,
     names: &[Names],
@@ -138,6 +226,5 @@ pub fn asked_input(
     if is_given(found, "input") {
         return input_of(text_of(found, "input"));
     }
-    notes.is_set_known = find_set(names, text_of(found, "arch")).is_some();
-    asked_call(found, names)
+    asked_call(found, names, notes)
 }

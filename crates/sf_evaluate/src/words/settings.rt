@@ -1,6 +1,6 @@
 //! What the words behind the options of `profile` say.
 
-ghost use Rattle.std.specs.Prelude.{◌≡◌, IfOk, codes, map, string_bytes, true};
+ghost use Rattle.std.specs.Prelude.{◌≡◌, IfOk, codes, find, is_none, map, not, option_map, string_bytes, true};
 ghost use Rattle.std.specs.List.{list_all, list_any};
 ghost use Rattle.std.specs.Str.{bytes_eq};
 ghost use Rattle.clap.specs.Words.{found_of, rows_of};
@@ -100,17 +100,20 @@ fn is_capability(text: &str) -> bool
     is_among(text, CAPABILITIES.as_slice())
 }
 
-fn are_capabilities(texts: &[&str]) -> bool
-    ensures { result ≡ list_all (λ t. is_capability t.now) texts.now }
+fn unknown_capability<'a, 't>(texts: &'t [&'a str]) -> Option<&'t &'a str>
+    ensures { option_map (λ t. t.now) result
+        ≡ find (λ t. not (is_capability t.now)) texts.now }
 {
-    texts.iter().all(|text| is_capability(text))
+    texts.iter().find(|text| !is_capability(text))
 }
 
-fn caps_fit(found: &ArgMatches<'_>) -> bool
-    ensures { result ≡ list_all is_capability (paths_of (codes "cap")
+fn misfit_of_caps<'a>(found: &ArgMatches<'a>) -> Option<Misfit<'a>>
+    ensures { is_none result ≡ list_all is_capability (paths_of (codes "cap")
         (rows_of (found_of found.now))) }
 {
-    are_capabilities(found.get_strs("cap").unwrap_or(&[]))
+    let caps = found.get_strs("cap").unwrap_or(&[]);
+    let taken = "a name of linux/capability.h, such as CAP_BPF";
+    unknown_capability(caps).map(|cap| Misfit::Value("--cap <NAME>", *cap, taken))
 }
 
 /// Whether a text is the version of a kernel, such as 6.12, or empty, as where `--kernel` isn't given.
@@ -120,15 +123,31 @@ fn is_kernel_or_none(text: &str) -> bool
     text.is_empty() || version_of(text).is_some()
 }
 
-/// Whether each word behind `--machine`, `--conflicts`, `--kernel` and `--cap` is one that its option takes. Only
-/// `--machine` must be given.
-pub fn profile_words_fit(found: &ArgMatches<'_>) -> bool
+/// The first option of `profile` with a word that it doesn't take. Only `--machine` must be given.
+pub(super) fn misfit_of_profile<'a>(found: &ArgMatches<'a>) -> Option<Misfit<'a>>
+    ensures { is_none result ≡ profile_words_fit (rows_of (found_of found.now)) }
+{
+    let machine = text_of(found, "machine");
+    if machine_named(machine).is_none() {
+        return Some(Misfit::Value("--machine <MACHINE>", machine, "x86_64, i386, aarch64, arm"));
+    }
+    let conflicts = text_of(found, "conflicts");
+    if reading_named(conflicts).is_none() {
+        return Some(Misfit::Value("--conflicts <RULE>", conflicts, "strictest, mildest, first"));
+    }
+    let kernel = text_of(found, "kernel");
+    if !is_kernel_or_none(kernel) {
+        let taken = "two numbers with a point between them";
+        return Some(Misfit::Value("--kernel <X.Y>", kernel, taken));
+    }
+    misfit_of_caps(found)
+}
+
+/// Whether each word behind `--machine`, `--conflicts`, `--kernel` and `--cap` is one that its option takes.
+pub(crate) fn profile_words_fit(found: &ArgMatches<'_>) -> bool
     ensures { result ≡ profile_words_fit (rows_of (found_of found.now)) }
 {
-    machine_named(text_of(found, "machine")).is_some()
-        && reading_named(text_of(found, "conflicts")).is_some()
-        && is_kernel_or_none(text_of(found, "kernel"))
-        && caps_fit(found)
+    misfit_of_profile(found).is_none()
 }
 
 fn strings_of(alloc: Global, texts: &[&str]) -> Result<Vec<String>, AllocError>
@@ -163,30 +182,4 @@ pub(crate) fn settings_of(
         skip_unknown: skips_unknown(found),
         calls,
     })
-}
-
-/// The first option of `profile` with a word that it doesn't take.
-pub(super) fn wrong_word<'a>(found: &ArgMatches<'a>) -> Option<Misfit<'a>> {
-    let machine = text_of(found, "machine");
-    if machine_named(machine).is_none() {
-        let taken = "x86_64, i386, aarch64, arm";
-        return Some(Misfit::Value("--machine <MACHINE>", machine, taken));
-    }
-    let conflicts = text_of(found, "conflicts");
-    if reading_named(conflicts).is_none() {
-        let taken = "strictest, mildest, first";
-        return Some(Misfit::Value("--conflicts <RULE>", conflicts, taken));
-    }
-    let kernel = text_of(found, "kernel");
-    if !is_kernel_or_none(kernel) {
-        let taken = "two numbers with a point between them";
-        return Some(Misfit::Value("--kernel <X.Y>", kernel, taken));
-    }
-    for cap in found.get_strs("cap").unwrap_or(&[]) {
-        if !is_capability(cap) {
-            let taken = "a name of linux/capability.h, such as CAP_BPF";
-            return Some(Misfit::Value("--cap <NAME>", *cap, taken));
-        }
-    }
-    None
 }

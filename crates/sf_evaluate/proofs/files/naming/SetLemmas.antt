@@ -3,7 +3,6 @@ use Rattle.sf_evaluate.proofs.Common.{arith, common_steps, ◌≡◌, ◌⊎◌,
 use Rattle.sf_names.specs.declared.fault.Fault.{Fault as NamesFault}
 use Rattle.sf_names.specs.declared.fault.Fault.TheVariants as names_faults
 use Rattle.sf_evaluate.specs.declared.files.identity.FileRole.TheVariants.{Names as NamesRole}
-use Rattle.sf_stack.specs.declared.fault.Fault.TheVariants as faults
 use Rattle.sf_evaluate.proofs.FailureLemmas.{path_at}
 use Rattle.sf_evaluate.proofs.Pairing.{paired_more, parts_more}
 

@@ -3,9 +3,9 @@ use Rattle.sf_evaluate.proofs.Common.{and_left, and_right, length-map, arith, �
 use Rattle.std.specs.Prelude.{codes}
 
 -- a reading is there just where what is read is
-pub read_some : (r : Option (Bor Text)) (t : Option Text) → option_map (λ s. s.now) r ≡ t → is_some r ≡ is_some t
-read_some None t is = ap is_some is
-read_some (Some x) t is = ap is_some is
+pub read_some : {X Y : Type 0} (v : X → Y) (r : Option X) (t : Option Y) → option_map v r ≡ t → is_some r ≡ is_some t
+read_some v None t is = ap is_some is
+read_some v (Some x) t is = ap is_some is
 
 -- a list has elements where the list that is read of it has some
 pub some_read : (xs : List (Bor Text)) (texts : List Text) → map (λ x. x.now) xs ≡ texts
