@@ -14,7 +14,8 @@ use Rattle.sf_evaluate.specs.Status.{fault_status}
 use Rattle.sf_trace.specs.Texts.{IsCheckText}
 use Rattle.sf_evaluate.specs.declared.fault.Fault.{Fault}
 use Rattle.sf_evaluate.specs.declared.fault.Fault.TheVariants.{Other}
-use Rattle.sf_command.specs.Runs.{DoesAsAsked, IsTooLarge, RefusesAsAsked, RefusesWords, meant_words, words_fit_for}
+use Rattle.sf_command.specs.Runs.{DoesAsAsked, IsTooLarge, RefusesAsAsked, RefusesWords, meant_words}
+use Rattle.sf_evaluate.specs.Words.{words_fit_for}
 use Rattle.sf_command.specs.Subcommands.{Checks}
 use Rattle.command_run.specs.Lines.{IsDone, check_words}
 use Rattle.command_run.proofs.FileLemmas.{none_unknown, one_file}

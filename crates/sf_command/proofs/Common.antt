@@ -9,11 +9,11 @@ pub use Rattle.clap.specs.Words.{HasKind, IsAmong, Kinds, Row, Text, found_of, k
 pub use Rattle.clap.specs.declared.error.Error.{Error}
 pub use Rattle.clap.specs.declared.error.kind.ErrorKind.TheVariants.{DisplayVersion, OutOfMemory}
 pub use Rattle.serde_json.specs.View.{view}
+pub use Rattle.sf_command.specs.Common.{Appends, AreNamed, Compared, Count, Data, Example, Fault, Filter, HasFiles, HoldStack, Input, Insn, IsComparison, IsListing, IsWrongCount, LacksName, Listed, ListingForm, Looser, Memory, NamesData, Reply, TooLarge, TooManyRows, UnknownName, Write, are_known, calls_asked, finding_of, numbers_fit, profile_words_fit, words_fit_for}
 pub use Rattle.sf_check.specs.Programs.{SpellsProgram}
 pub use Rattle.sf_command.specs.Audits.{AreRemarks, AskedData, IsAskedBy, IsRefusedFor, IsRemark, ReadData, RefusesAudit, read_data, source_lines}
-pub use Rattle.sf_command.specs.Common.{Appends, AreNamed, Compared, Count, Data, Example, Fault, Filter, HasFiles, HoldStack, Input, Insn, IsComparison, IsListing, IsWrongCount, LacksName, Listed, ListingForm, Looser, Memory, NamesData, Reply, TooLarge, TooManyRows, UnknownName, Write, are_known, calls_asked, finding_of, numbers_fit, profile_words_fit}
 pub use Rattle.sf_command.specs.Listings.{ListsFiles, is_digest, is_json, listing_output}
-pub use Rattle.sf_command.specs.Runs.{HasWrongWord, Helps, IsHelp, IsTooLarge, RefusesAs, RefusesAsAsked, RefusesWords, WritesText, words_fit_for}
+pub use Rattle.sf_command.specs.Runs.{HasWrongWord, Helps, IsHelp, IsTooLarge, RefusesAs, RefusesAsAsked, RefusesWords, WritesText}
 pub use Rattle.sf_command.specs.Subcommands.{OnCalls, RefusesEval, RunsAs}
 pub use Rattle.sf_command_line.specs.CommandLine.{IsKnown, errors_at, subcommand_at}
 pub use Rattle.sf_command_line.specs.Terminal.{visible}

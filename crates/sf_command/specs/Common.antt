@@ -22,8 +22,8 @@ pub use Rattle.sf_command_line.specs.CommandLine.{errors_at, subcommand_at}
 pub use Rattle.sf_command_line.specs.Options.{ArePaths, IsOptionNumber}
 pub use Rattle.sf_compare.specs.Comparisons.{Compared, IsComparison, comparison_text, finding_of}
 pub use Rattle.sf_compare.specs.Documents.{comparison_document}
-pub use Rattle.sf_evaluate.specs.Asking.{AreNamed, AsksInput, LacksName, RefusesNamed, eval_words_fit, is_given, numbers_fit}
-pub use Rattle.sf_evaluate.specs.Expecting.{AreAcceptedIn, IsControl, RefusesAccepted, RefusesControl, audit_words_fit, wants_summary}
+pub use Rattle.sf_evaluate.specs.Asking.{AreNamed, AsksInput, LacksName, RefusesNamed, is_given, numbers_fit}
+pub use Rattle.sf_evaluate.specs.Expecting.{AreAcceptedIn, IsControl, RefusesAccepted, RefusesControl, wants_summary}
 pub use Rattle.sf_evaluate.specs.Faults.{IsOther}
 pub use Rattle.sf_evaluate.specs.Files.{HoldStack, RefusesBoth, RefusesFiles}
 pub use Rattle.sf_evaluate.specs.Groups.{AreGroupsIn, RefusesGroups, installed_groups}
@@ -32,7 +32,8 @@ pub use Rattle.sf_evaluate.specs.Origins.{HasOrigins}
 pub use Rattle.sf_evaluate.specs.Outputs.{AnswersFiles, ChecksFiles, RefusesCheck}
 pub use Rattle.sf_evaluate.specs.Policies.{AreAsked, RefusesAsking}
 pub use Rattle.sf_evaluate.specs.Profiles.{RefusesProfile, WritesProfile, profile_words_fit}
-pub use Rattle.sf_evaluate.specs.Wanted.{are_known, calls_asked, calls_fit, digest_fits, is_switched_on, rows_fit}
+pub use Rattle.sf_evaluate.specs.Wanted.{are_known, calls_asked, is_switched_on}
+pub use Rattle.sf_evaluate.specs.Words.{words_fit_for}
 pub use Rattle.sf_evaluate.specs.declared.fault.Fault.TheVariants.{Other}
 pub use Rattle.sf_evaluate.specs.declared.files.identity.FileRole.TheVariants.{Filter, New, Old, Policy}
 pub use Rattle.sf_insn.specs.declared.input.Input.{Input}

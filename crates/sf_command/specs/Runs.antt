@@ -1,18 +1,8 @@
 -- What the program does, by the words of its command line.
-use Rattle.std.specs.Prelude.{◌≡◌, ◌⊎◌, ◌&&◌, ℕ, Bool, true, false, if◌then◌else◌, List, [], ◌∷◌, ◌++◌, Option, Some, codes, drop}
-use Rattle.sf_command.specs.Common.{bytes_eq, Appends, IsAmong, Row, Text, ErrorKind, DisplayHelp, DisplayVersion, Memory, TooLarge, TooManyRows, Write, errors_at, subcommand_at, IsOther, Other, eval_words_fit, RefusesProfile, profile_words_fit, audit_words_fit, calls_fit, digest_fits, rows_fit}
+use Rattle.std.specs.Prelude.{◌≡◌, ◌⊎◌, ℕ, Bool, false, if◌then◌else◌, List, [], ◌∷◌, ◌++◌, Option, Some, codes, drop}
+use Rattle.sf_command.specs.Common.{bytes_eq, Appends, IsAmong, Row, Text, ErrorKind, DisplayHelp, DisplayVersion, Memory, TooLarge, TooManyRows, Write, errors_at, subcommand_at, IsOther, Other, RefusesProfile, words_fit_for}
 use Rattle.sf_evaluate.specs.declared.fault.Fault.{Fault}
 use Rattle.sf_command.specs.Subcommands.{RefusesOnStack, RunsAs}
-
--- the words behind the options of a subcommand, which has this name, are among those that the options take
-abbrev pub words_fit_for : Text → List Row → Bool
-words_fit_for name rows =
-    if bytes_eq name (codes "profile") then profile_words_fit rows
-    else if bytes_eq name (codes "list") then calls_fit rows && digest_fits rows
-    else if bytes_eq name (codes "compare") then calls_fit rows && rows_fit rows
-    else if bytes_eq name (codes "eval") then eval_words_fit rows
-    else if bytes_eq name (codes "audit") then audit_words_fit rows
-    else true
 
 -- a subcommand is named, and a word isn't one that its option takes
 abbrev pub HasWrongWord : Option (Text × List Row) → Type 0

@@ -123,8 +123,7 @@ struct AskedContents {
     accepted: Vec<String>,
 }
 
-/// Reads the policy files, then that of the control, and then the file of the questions that may be allowed. The notes
-/// keep the bytes of the last policy or control that was read, and why it is refused, if it is.
+/// Reads the policy files, then that of the control, and then the file of the questions that may be allowed.
 fn read_questions<F: Files>(
     alloc: Global,
     asked: &Asked<'_, '_, '_>,

@@ -2,7 +2,7 @@
 ghost use Rattle.std.specs.Prelude.{◌≡◌, ◌≤◌, ◌⊎◌, map, string_bytes, IfOk, IfErr};
 ghost use Rattle.clap.specs.Words.{found_of, rows_of, subcommand_rows_of};
 ghost use Rattle.sf_stack.specs.declared.fault.Fault.TheVariants.{Write as WriteFault};
-ghost use Rattle.sf_command.specs.Runs.{DoesAsAsked, HasWrongWord, IsTooLarge, RefusesAs, RefusesAsAsked, RefusesWords, meant_words, words_fit_for};
+ghost use Rattle.sf_command.specs.Runs.{DoesAsAsked, HasWrongWord, IsTooLarge, RefusesAs, RefusesAsAsked, RefusesWords, meant_words};
 ghost use Rattle.sf_command.specs.Subcommands.{RunsAs};
 ghost use Rattle.sf_command_line.specs.CommandLine.{IsKnown};
 ghost use Rattle.sf_evaluate.specs.Faults.{fault_number};
@@ -16,30 +16,13 @@ use crate::usage::{meant_words, write_usage};
 use crate::watching::Meter;
 use clap::ArgMatches;
 use sf_command_line::command_form;
-use sf_evaluate::{
-    Files, Notes, audit_words_fit, calls_fit, digest_fits, eval_words_fit, profile,
-    profile_words_fit, rows_fit, tell, tell_wrong_words, warn,
-};
+use sf_evaluate::{Files, Notes, profile, tell, tell_wrong_words, warn, words_fit_for};
 use std::io::Write;
 use std::sync::Wait;
 use std::thread::Threads;
 
-/// Whether the words of the subcommand with this name fit: each option but `--input` has a word of a form that it
-/// takes, and the options go together. `clap` has checked everything else. `run` asks this before any file is read.
-fn words_fit_for(name: &str, found: &ArgMatches<'_>) -> bool
-    ensures { result ≡ words_fit_for name.now (rows_of (found_of found.now)) }
-{
-    match name {
-        "profile" => profile_words_fit(found),
-        "eval" => eval_words_fit(found),
-        "list" => calls_fit(found) && digest_fits(found),
-        "compare" => calls_fit(found) && rows_fit(found),
-        "audit" => audit_words_fit(found),
-        _ => true,
-    }
-}
-
-/// Runs the subcommand that the command line names, and gives its exit status.
+/// Runs the subcommand that the command line names, and gives its exit status. Whether its words fit is asked before
+/// any file is read.
 fn run<R: Threads + Wait + Sync, F: Files, M: Meter, O: Write>(
     means: &Means<'_, '_, R, M>,
     version: &str,
